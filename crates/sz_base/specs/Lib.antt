@@ -1,1 +1,9 @@
 pub mod Fault
+pub mod Reading
+pub mod Byte
+pub mod Serial
+pub mod Number
+pub mod Host
+pub mod Target
+pub mod Encoding
+pub mod Identity

@@ -1,9 +1,34 @@
-//! The plain values that every crate passes around: lists that contracts see as lists, and the shared
-//! refusals.
+//! The plain values that every crate passes around: lists that contracts see as lists, times, serial
+//! numbers, hosts, targets, identities and evidence, with the readers of their texts and the shared
+//! refusals. Each form of a text is one definition of `specs/`, and a reader answers exactly by it.
 #![tactic(auto)]
 
+mod encodings;
+mod evidence;
 mod fault;
+mod host;
+mod identity;
+mod laws;
 mod list;
+mod numbers;
+mod seconds;
+mod serial;
+mod target;
 
+pub use encodings::{base64_bytes, colon_hex};
+pub use evidence::Evidence;
 pub use fault::{BaseFault, Failed, OutOfMemory, PutFault};
-pub use list::{Bytes, Calls, Items, Text, Texts};
+pub use host::Host;
+pub use identity::Identity;
+pub use laws::{
+    base64_reads_back, hosts_read_back, numbers_read_back, pairs_read_once, serials_read_back,
+    targets_read_back,
+};
+pub use list::{Bytes, Calls, Certs, Items, Messages, Signatures, Text, Texts};
+pub use numbers::number;
+pub use seconds::Seconds;
+pub use serial::Serial;
+pub use target::{Target, Targets};
+
+#[cfg(test)]
+mod tests;

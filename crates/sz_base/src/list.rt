@@ -20,6 +20,15 @@ pub type Text = Items<u8>;
 /// Texts.
 pub type Texts = Items<Text>;
 
+/// Certificates, each as its bytes.
+pub type Certs = Items<Bytes>;
+
+/// Messages to be signed.
+pub type Messages = Items<Bytes>;
+
+/// Signatures, each as its bytes.
+pub type Signatures = Items<Bytes>;
+
 /// Numbers of calls, counted from 1.
 pub type Calls = Items<u64>;
 
@@ -103,6 +112,15 @@ impl<T: Drop> Items<T> {
 }
 
 impl Items<u8> {
+    /// The list of these bytes.
+    pub fn from_slice(alloc: Global, bytes: &[u8]) -> Result<Self, OutOfMemory>
+        ensures { IfOk result (λ made. made ≡ bytes.now) }
+    {
+        Ok(Items {
+            items: bytes.to_vec(alloc)?,
+        })
+    }
+
     /// Puts bytes last. A refusal leaves the list as it was.
     pub fn append(&mut self, more: &[u8]) -> Result<(), OutOfMemory>
         ensures ok { OnOk result (self.new ≡ self.old ++ more.now) }
@@ -119,5 +137,18 @@ impl Items<u8> {
         Ok(Items {
             items: self.items.to_vec(alloc)?,
         })
+    }
+}
+
+impl Items<Bytes> {
+    /// An equal list.
+    pub fn copy(&self, alloc: Global) -> Result<Self, OutOfMemory>
+        ensures { IfOk result (λ copied. copied ≡ self.now) }
+    {
+        let mut copied = Items::create(alloc);
+        for item in self.items.iter() {
+            copied.push(item.copy(alloc)?)?;
+        }
+        Ok(copied)
     }
 }

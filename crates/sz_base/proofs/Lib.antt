@@ -1,0 +1,5 @@
+pub mod ReadPairs
+pub mod Padded
+pub mod Numerals
+pub mod HostForms
+pub mod Splits
