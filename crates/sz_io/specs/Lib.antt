@@ -1,0 +1,4 @@
+pub mod Folder
+pub mod Memory
+pub mod Plan
+pub mod Read
