@@ -1,0 +1,12 @@
+pub mod Choice
+pub mod Disk
+pub mod Disks
+pub mod Event
+pub mod Image
+pub mod Medium
+pub mod Memory
+pub mod Moments
+pub mod Past
+pub mod Parts
+pub mod Plan
+pub mod Run

@@ -1,0 +1,122 @@
+-- What contracts see of a disk in memory, and what its calls do.
+use Rattle.std.specs.Prelude.{◌≡◌, ◌⊎◌, ℕ, Bool, true, false, List, [], ◌∷◌, ◌++◌, length, replicate, Option, Some, None, MatchBool}
+use Rattle.sz_spec.specs.Cause.{HasCause}
+use Rattle.sz_disk.specs.Image.{part, patched}
+use Rattle.sz_disk.specs.Disk.{Elapses}
+use Rattle.sz_disk.specs.Event.{Leaves, LeftSince}
+use Rattle.sz_disk.specs.Plan.{counted}
+use Rattle.sz_disk.specs.declared.event.Event.{Event}
+use Rattle.sz_disk.specs.declared.event.Event.TheVariants.{Wrote, Synced}
+use Rattle.sz_disk.specs.declared.plan.Plan.{Plan}
+use Rattle.sz_disk.specs.declared.plan.Fate.{Fate}
+use Rattle.sz_disk.specs.declared.plan.Fate.TheVariants.{Runs, AtCut, Refused}
+use Rattle.sz_disk.specs.declared.memory.MemoryDisk.{MemoryDisk}
+
+pub record Memory : Type 0 where
+  -- what a read gives
+  pub bytes : List ℕ
+  -- the writes and syncs since it was made or powered up
+  pub events : List Event
+  -- its calls so far, and which of the next ones fail
+  pub plan : Plan
+  pub faults : ℕ
+  -- a record found no memory
+  pub short : Bool
+
+abbrev pub view : MemoryDisk → Memory
+view disk = record {
+  bytes = disk.medium.bytes.items;
+  events = disk.medium.events.items;
+  plan = disk.plan;
+  faults = disk.faults;
+  short = disk.short;
+}
+
+-- what it tells of the disk rule: what a read gives, what a crash may leave, the moment, and what a crash
+-- since an earlier moment might have left
+abbrev pub reads_of : Memory → Option (List ℕ)
+reads_of disk = Some disk.bytes
+
+abbrev pub images_of : Memory → List ℕ → Type 0
+images_of disk = Leaves disk.bytes disk.events
+
+abbrev pub moment_of : Memory → ℕ
+moment_of disk = length disk.events
+
+abbrev pub images_since : Memory → ℕ → List ℕ → Type 0
+images_since disk = LeftSince disk.bytes disk.events
+
+-- time goes on from one state to a later one
+abbrev pub TimeGoes : Memory → Memory → Type 0
+TimeGoes old new = Elapses (moment_of old) (moment_of new) (images_since old) (images_since new) (images_of new)
+
+-- no call yet, and none that fails
+abbrev pub no_plan : Plan
+no_plan = record { calls = 0; failing = []; cut = None }
+
+-- a disk of zeros with nothing unsynced
+abbrev pub blank : ℕ → Memory
+blank size = record { bytes = replicate size 0; events = []; plan = no_plan; faults = 0; short = false }
+
+-- the same but for its plan
+abbrev pub with_plan : Memory → Plan → Memory
+with_plan disk plan = record disk { plan = plan }
+
+-- the disk once it is powered up with an image: its faults are counted on, and want of memory is told on
+abbrev pub powered_up : Memory → List ℕ → Memory
+powered_up disk image = record { bytes = image; events = []; plan = no_plan; faults = disk.faults; short = disk.short }
+
+-- a call was counted, and a refused one as a fault, too
+pub record IsCounted (old new : Memory) (refused : Bool) : Type 0 where
+  pub plan : new.plan ≡ counted old.plan
+  pub cause : HasCause old.faults new.faults refused
+
+-- nothing else has changed
+pub record IsUntouched (old new : Memory) : Type 0 where
+  pub bytes : new.bytes ≡ old.bytes
+  pub events : new.events ≡ old.events
+  pub short : new.short ≡ old.short
+
+-- the record found no memory, and nothing else has changed
+pub record IsShort (old new : Memory) : Type 0 where
+  pub bytes : new.bytes ≡ old.bytes
+  pub events : new.events ≡ old.events
+  pub short : new.short ≡ true
+
+-- the bytes were written and recorded
+pub record IsWritten (at : ℕ) (given : List ℕ) (old new : Memory) : Type 0 where
+  pub bytes : new.bytes ≡ patched at given old.bytes
+  pub events : new.events ≡ old.events ++ Wrote at (part old.bytes at (length given)) ∷ []
+  pub short : new.short ≡ old.short
+
+-- the bytes were written, or the record found no memory
+abbrev pub IsKept : ℕ → List ℕ → Memory → Memory → Bool → Type 0
+IsKept at given old new kept = MatchBool kept (IsWritten at given old new) (IsShort old new)
+
+-- a sync was recorded
+pub record IsSynced (old new : Memory) : Type 0 where
+  pub bytes : new.bytes ≡ old.bytes
+  pub events : new.events ≡ old.events ++ Synced ∷ []
+  pub short : new.short ≡ old.short
+
+-- the sync was recorded, or the record found no memory
+abbrev pub IsMarked : Memory → Memory → Bool → Type 0
+IsMarked old new kept = MatchBool kept (IsSynced old new) (IsShort old new)
+
+-- A read, by the call's fate.
+abbrev pub Reads : Fate → ℕ → List ℕ → Memory → Memory → Bool → Type 0
+Reads Runs at given old new refused = (refused ≡ false) × IsUntouched old new × (given ≡ part old.bytes at (length given))
+Reads AtCut at given old new refused = (refused ≡ true) × IsUntouched old new
+Reads Refused at given old new refused = (refused ≡ true) × IsUntouched old new
+
+-- A write, by the call's fate. One at which the cut falls is refused, and counts as written.
+abbrev pub Writes : Fate → ℕ → List ℕ → Memory → Memory → Bool → Type 0
+Writes Runs at bytes old new refused = MatchBool refused (IsShort old new) (IsWritten at bytes old new)
+Writes AtCut at bytes old new refused = (refused ≡ true) × (IsWritten at bytes old new ⊎ IsShort old new)
+Writes Refused at bytes old new refused = (refused ≡ true) × IsUntouched old new
+
+-- A sync, by the call's fate.
+abbrev pub Syncs : Fate → Memory → Memory → Bool → Type 0
+Syncs Runs old new refused = MatchBool refused (IsShort old new) (IsSynced old new)
+Syncs AtCut old new refused = (refused ≡ true) × IsUntouched old new
+Syncs Refused old new refused = (refused ≡ true) × IsUntouched old new

@@ -1,0 +1,261 @@
+ghost use Rattle.std.specs.Prelude.{◌≡◌, ◌+◌, ◌≤◌, List, ℕ, length, Option, Some, IfOk, OnOk, is_some, is_err, true, not};
+ghost use Rattle.std.specs.Option.{option_map};
+ghost use Rattle.sz_spec.specs.Cause.{HasCause};
+ghost use Rattle.sz_disk.specs.Image.{patched};
+ghost use Rattle.sz_disk.specs.Disk.{ReadsPart, ReadsChangedIn, NothingNew, TornIn, IsSettled};
+ghost use Rattle.sz_disk.specs.Event.{Leaves, unsynced, undone};
+ghost use Rattle.sz_disk.specs.Past.{reads-left, since-now, now-since};
+ghost use Rattle.sz_disk.specs.Plan.{fate_of, counted, choice_of, with_failing, with_cut};
+ghost use Rattle.sz_disk.specs.Choice.{IsPicked};
+ghost use Rattle.sz_disk.specs.Memory.{view, reads_of, images_of, moment_of, images_since, TimeGoes, blank, powered_up, with_plan, IsCounted, Reads, Writes, Syncs, IsKept, IsMarked, IsUntouched};
+ghost use Rattle.std.proofs.Common.{get_or, refl};
+
+use crate::disk::Disk;
+use crate::medium::Medium;
+use crate::plan::{Cut, Fate, Plan};
+use std::alloc::Global;
+use sz_base::{Calls, Failed, OutOfMemory};
+
+/// A disk in memory that keeps the disk rule, and whose calls fail where they are told to.
+#[derive(Drop)]
+pub struct MemoryDisk {
+    alloc: Global,
+    medium: Medium,
+    plan: Plan,
+    faults: u64,
+    short: bool,
+}
+
+impl MemoryDisk {
+    /// A disk of `size` zeros, with nothing unsynced.
+    pub fn create(alloc: Global, size: u64) -> Result<Self, OutOfMemory>
+        ensures { IfOk result (λ disk. view disk ≡ blank size) }
+    {
+        Ok(MemoryDisk {
+            alloc,
+            medium: Medium::create(alloc, size as usize)?,
+            plan: Plan::create(alloc),
+            faults: 0,
+            short: false,
+        })
+    }
+
+    /// Names the calls that fail, by their numbers, in the place of those that were named before.
+    pub fn fail_at(&mut self, calls: Calls)
+        ensures { view self.new ≡ with_plan (view self.old) (with_failing (view self.old).plan calls) }
+    {
+        self.plan.failing = calls;
+    }
+
+    /// Stops the disk at a call: that call and all later ones fail. `choice` picks what is left of it when it
+    /// is powered up. A cut that was reached stays.
+    pub fn cut_at(&mut self, call: u64, choice: u64)
+        ensures { view self.new ≡ with_plan (view self.old)
+            (with_cut (view self.old).plan (record { call = call; choice = choice })) }
+    {
+        self.plan.cut_at(Cut { call, choice });
+    }
+
+    /// The number of its calls but `size` since it was made or powered up. It stays at the greatest u64.
+    pub fn calls(&self) -> u64
+        ensures { result ≡ (view self.now).plan.calls }
+    {
+        self.plan.calls
+    }
+
+    /// The record of a call found no memory.
+    pub fn short(&self) -> bool
+        ensures { result ≡ (view self.now).short }
+    {
+        self.short
+    }
+
+    /// The disk with the image that the cut's choice picks, or choice 0 where no cut is named. Everything is
+    /// synced, the record is empty, and no call is counted or named.
+    pub fn power_up(self) -> Self
+        ensures picked { let pending = unsynced (view self).events in
+            IsPicked (choice_of (view self).plan) pending
+            (λ k. get_or (undone pending (view self).bytes) k 0) (view self).bytes (view result).bytes }
+        ensures left { Leaves (view self).bytes (view self).events (view result).bytes }
+        ensures fresh { view result ≡ powered_up (view self) (view result).bytes }
+    {
+        let mut disk = self;
+        let choice = disk.plan.choice();
+        disk.medium.settle(choice);
+        disk.plan = Plan::create(disk.alloc);
+        disk
+    }
+
+    /// Writes and records it, and says whether the record found memory.
+    fn put(&mut self, at: usize, bytes: &[u8]) -> bool
+        requires { at + length bytes.now ≤ length (view self.old).bytes }
+        ensures kept { IsKept at bytes.now (view self.old) (view self.new) result }
+        ensures plan { (view self.new).plan ≡ (view self.old).plan }
+        ensures faults { (view self.new).faults ≡ (view self.old).faults }
+    {
+        let kept = self.medium.put(self.alloc, at, bytes).is_ok();
+        if !kept {
+            self.short = true;
+        }
+        kept
+    }
+
+    /// Records a sync, and says whether the record found memory.
+    fn mark(&mut self) -> bool
+        ensures kept { IsMarked (view self.old) (view self.new) result }
+        ensures plan { (view self.new).plan ≡ (view self.old).plan }
+        ensures faults { (view self.new).faults ≡ (view self.old).faults }
+    {
+        let kept = self.medium.mark().is_ok();
+        if !kept {
+            self.short = true;
+        }
+        kept
+    }
+
+    /// Answers a call, and counts a refusal as a fault.
+    fn answer(&mut self, done: bool) -> Result<(), Failed>
+        ensures answer { is_err result ≡ not done }
+        ensures counted { HasCause (view self.old).faults (view self.new).faults (is_err result) }
+        ensures untouched { IsUntouched (view self.old) (view self.new) }
+        ensures plan { (view self.new).plan ≡ (view self.old).plan }
+    {
+        if done {
+            return Ok(());
+        }
+        self.faults = self.faults.saturating_add(1);
+        Err(Failed)
+    }
+
+    /// A read, by the call's fate.
+    fn read_next(&mut self, at: usize, into: &mut [u8]) -> Result<(), Failed>
+        requires { at + length into.old ≤ length (view self.old).bytes }
+        ensures read { Reads (fate_of (view self.old).plan) at into.new
+            (view self.old) (view self.new) (is_err result) }
+        ensures counted { IsCounted (view self.old) (view self.new) (is_err result) }
+    {
+        let done = match self.plan.count() {
+            Fate::Runs => {
+                into.copy_from_slice(&self.medium.bytes[at..at + into.len()]);
+                true
+            }
+            Fate::AtCut | Fate::Refused => false,
+        };
+        self.answer(done)
+    }
+
+    /// A write, by the call's fate.
+    fn write_next(&mut self, at: usize, bytes: &[u8]) -> Result<(), Failed>
+        requires { at + length bytes.now ≤ length (view self.old).bytes }
+        ensures written { Writes (fate_of (view self.old).plan) at bytes.now
+            (view self.old) (view self.new) (is_err result) }
+        ensures counted { IsCounted (view self.old) (view self.new) (is_err result) }
+    {
+        let done = match self.plan.count() {
+            Fate::Runs => self.put(at, bytes),
+            Fate::AtCut => {
+                self.put(at, bytes);
+                false
+            }
+            Fate::Refused => false,
+        };
+        self.answer(done)
+    }
+
+    /// A sync, by the call's fate.
+    fn sync_next(&mut self) -> Result<(), Failed>
+        ensures synced { Syncs (fate_of (view self.old).plan)
+            (view self.old) (view self.new) (is_err result) }
+        ensures counted { IsCounted (view self.old) (view self.new) (is_err result) }
+    {
+        let done = match self.plan.count() {
+            Fate::Runs => self.mark(),
+            Fate::AtCut | Fate::Refused => false,
+        };
+        self.answer(done)
+    }
+}
+
+impl Disk for MemoryDisk {
+    ghost reads = { λ disk. reads_of (view disk) };
+
+    ghost may_leave = { λ disk. images_of (view disk) };
+
+    ghost moment = { λ disk. moment_of (view disk) };
+
+    ghost left_since = { λ disk. images_since (view disk) };
+
+    ghost faults = { λ disk. (view disk).faults };
+
+    ghost size_of = { λ disk. length (view disk).bytes };
+
+    ghost reads_as_left = { λ disk bytes is.
+        reads-left (view disk).bytes (view disk).events bytes is };
+
+    ghost tells_reads = { λ disk image left. ((view disk).bytes, refl) };
+
+    ghost sized = { λ disk image left. left.size };
+
+    ghost counts_now = { λ disk t image le left.
+        since-now (view disk).bytes (view disk).events t image le left };
+
+    ghost only_now = { λ disk image left.
+        now-since (view disk).bytes (view disk).events image left };
+
+    fn size(&self) -> u64 {
+        self.medium.bytes.len() as u64
+    }
+
+    fn read(&mut self, at: u64, into: &mut [u8]) -> Result<(), Failed>
+        requires { at + length into.old ≤ length (view self.old).bytes }
+        ensures bytes { OnOk result (ReadsPart (reads_of (view self.old)) at into.new) }
+        ensures seen { reads_of (view self.new) ≡ reads_of (view self.old) }
+        ensures crash { NothingNew (images_of (view self.old)) (images_of (view self.new)) }
+        ensures time { TimeGoes (view self.old) (view self.new) }
+        ensures size { length (view self.new).bytes ≡ length (view self.old).bytes }
+        ensures cause { HasCause (view self.old).faults (view self.new).faults (is_err result) }
+
+        // It fails exactly where the plan says so.
+        ensures exact { Reads (fate_of (view self.old).plan) at into.new
+            (view self.old) (view self.new) (is_err result) }
+        ensures plan { (view self.new).plan ≡ counted (view self.old).plan }
+    {
+        self.read_next(at as usize, into)
+    }
+
+    fn write_at(&mut self, at: u64, bytes: &[u8]) -> Result<(), Failed>
+        requires { at + length bytes.now ≤ length (view self.old).bytes }
+        ensures written { OnOk result (reads_of (view self.new)
+            ≡ option_map (patched at bytes.now) (reads_of (view self.old))) }
+        ensures seen { ReadsChangedIn at (length bytes.now)
+            (reads_of (view self.old)) (reads_of (view self.new)) }
+        ensures crash { TornIn at (length bytes.now) (images_of (view self.old)) (images_of (view self.new)) }
+        ensures time { TimeGoes (view self.old) (view self.new) }
+        ensures size { length (view self.new).bytes ≡ length (view self.old).bytes }
+        ensures cause { HasCause (view self.old).faults (view self.new).faults (is_err result) }
+
+        // It fails exactly where the plan says so, or where its record finds no memory.
+        ensures exact { Writes (fate_of (view self.old).plan) at bytes.now
+            (view self.old) (view self.new) (is_err result) }
+        ensures plan { (view self.new).plan ≡ counted (view self.old).plan }
+    {
+        self.write_next(at as usize, bytes)
+    }
+
+    fn sync(&mut self) -> Result<(), Failed>
+        ensures settled { OnOk result (IsSettled (reads_of (view self.new)) (images_of (view self.new))) }
+        ensures seen { OnOk result (reads_of (view self.new) ≡ reads_of (view self.old)) }
+        ensures told { is_some (reads_of (view self.new)) ≡ is_some (reads_of (view self.old)) }
+        ensures crash { NothingNew (images_of (view self.old)) (images_of (view self.new)) }
+        ensures time { TimeGoes (view self.old) (view self.new) }
+        ensures size { length (view self.new).bytes ≡ length (view self.old).bytes }
+        ensures cause { HasCause (view self.old).faults (view self.new).faults (is_err result) }
+
+        // It fails exactly where the plan says so, or where its record finds no memory.
+        ensures exact { Syncs (fate_of (view self.old).plan)
+            (view self.old) (view self.new) (is_err result) }
+        ensures plan { (view self.new).plan ≡ counted (view self.old).plan }
+    {
+        self.sync_next()
+    }
+}
