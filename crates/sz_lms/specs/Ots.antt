@@ -36,11 +36,13 @@ D_MESG = 0x8181
 abbrev pub message_digest : List ℕ → ℕ → List ℕ → List ℕ → List ℕ
 message_digest id q randomizer message = hashed id q D_MESG (randomizer ++ message)
 
+-- how much the digits of Q lack of being the greatest, all together
+abbrev pub missing_of : OtsType → List ℕ → ℕ
+missing_of type bytes = sum_by (λ one. 2 ^ type.width - 1 - one) (digits type.width (256 / type.width) bytes)
+
 -- the checksum of the digits of Q, as two bytes (section 4.4)
 abbrev pub checksum : OtsType → List ℕ → List ℕ
-checksum type bytes =
-    let missing = sum_by (λ one. 2 ^ type.width - 1 - one) (digits type.width (256 / type.width) bytes) in
-    to_be_bytes w16 (missing * 2 ^ type.shift % 2 ^ 16)
+checksum type bytes = to_be_bytes w16 (missing_of type bytes * 2 ^ type.shift % 2 ^ 16)
 
 -- Q and its checksum, whose digits say how far each chain runs
 abbrev pub signed_bytes : OtsType → List ℕ → List ℕ
@@ -66,11 +68,15 @@ chain_ends id q w signed i (value ∷ values) =
 abbrev pub key_of_ends : List ℕ → ℕ → List (List ℕ) → List ℕ
 key_of_ends id q ends = hashed id q D_PBLC (concat ends)
 
+-- the public key candidate Kc of the values of a one-time signature of Q
+abbrev pub key_of_digest : List ℕ → ℕ → OtsType → List (List ℕ) → List ℕ → List ℕ
+key_of_digest id q type values digest =
+    key_of_ends id q (chain_ends id q type.width (signed_bytes type digest) 0 values)
+
 -- the public key candidate Kc of a one-time signature of a message (section 4.6, algorithm 4b)
 unfoldable pub ots_key : List ℕ → ℕ → OtsType → List ℕ → List (List ℕ) → List ℕ → List ℕ
 ots_key id q type randomizer values message =
-    key_of_ends id q
-    (chain_ends id q type.width (signed_bytes type (message_digest id q randomizer message)) 0 values)
+    key_of_digest id q type values (message_digest id q randomizer message)
 
 -- values of 32 bytes
 abbrev pub AreValues : ℕ → List (List ℕ) → Type 0

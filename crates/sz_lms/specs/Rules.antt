@@ -3,8 +3,9 @@
 use Rattle.std.specs.Prelude.{ℕ, zero, suc, ◌+◌, ◌-◌, ◌*◌, ◌^◌, ◌==◌, ◌&&◌, nat_lt, nat_le, if◌then◌else◌, Bool, false, List, [], ◌∷◌, ◌++◌, length, take, drop, Option, Some, None}
 use Rattle.std.specs.Option.{is_some}
 use Rattle.std.specs.Str.{bytes_eq}
+use Rattle.std.specs.Int.{w16, w32, to_be_bytes}
 use Rattle.sz_lms.specs.Bits.{u32_at, values_of}
-use Rattle.sz_lms.specs.Ots.{OtsType, ots_type, ots_key}
+use Rattle.sz_lms.specs.Ots.{OtsType, ots_type, ots_key, key_of_digest, message_digest, D_MESG}
 use Rattle.sz_lms.specs.Lms.{height_of, leaf_node, climb}
 
 -- what a rule speaks of
@@ -77,6 +78,31 @@ signature_rules key type bytes =
     ∷ (nat_lt (u32_at bytes 0) (2 ^ type.height), LeafNumber)
     ∷ []
 
+-- the same, where the types are not known yet
+abbrev pub front_rules : List ℕ → List ℕ → List (Bool × Rule)
+front_rules key bytes = where_known (tree_type key) (λ type. signature_rules key type bytes)
+
+-- what is hashed before the message to get Q of the one-time signature in the LMS signature at the front
+-- of the bytes
+abbrev pub message_head : List ℕ → List ℕ → List ℕ
+message_head key bytes =
+    take 16 (drop 8 key) ++ to_be_bytes w32 (u32_at bytes 0) ++ to_be_bytes w16 D_MESG ++ take 32 (drop 4 (drop 4 bytes))
+
+-- what the one-time signature in the LMS signature at the front of the bytes signs: Q of the message
+abbrev pub signed_digest : List ℕ → List ℕ → List ℕ → List ℕ
+signed_digest key bytes message =
+    message_digest (take 16 (drop 8 key)) (u32_at bytes 0) (take 32 (drop 4 (drop 4 bytes))) message
+
+-- the root that it leads to from there
+abbrev pub root_of_digest : List ℕ → TreeType → List ℕ → List ℕ → List ℕ
+root_of_digest key type digest bytes =
+    let id = take 16 (drop 8 key) in
+    let q = u32_at bytes 0 in
+    climb id (2 ^ type.height + q)
+    (leaf_node id (2 ^ type.height + q)
+    (key_of_digest id q type.ots (values_of type.ots.chains (drop 36 (drop 4 bytes))) digest))
+    (values_of type.height (drop (8 + ots_length type.ots) bytes))
+
 -- the root that the LMS signature at the front of the bytes leads to
 unfoldable pub root_from : List ℕ → TreeType → List ℕ → List ℕ → List ℕ
 root_from key type message bytes =
@@ -109,6 +135,11 @@ next_key type bytes = take 56 (drop (lms_length type) bytes)
 abbrev pub next_bytes : TreeType → List ℕ → List ℕ
 next_bytes type bytes = drop (lms_length type + 56) bytes
 
+-- on the key behind an LMS signature, and on the LMS signature behind that key
+abbrev pub next_rules : TreeType → List ℕ → List (Bool × Rule)
+next_rules type bytes =
+    (nat_le (lms_length type + 56) (length bytes), Length) ∷ front_rules (next_key type bytes) (next_bytes type bytes)
+
 -- lengths, types and leaf numbers, from the front: n more levels stand below this key
 unfoldable pub level_rules : ℕ → List ℕ → List ℕ → List (Bool × Rule)
 level_rules zero key bytes = where_known (tree_type key) (λ type.
@@ -125,17 +156,38 @@ climb_rules (suc n) key message bytes = where_known (tree_type key) (λ type.
     root_rules key (next_key type bytes) bytes
     ++ climb_rules n (next_key type bytes) message (next_bytes type bytes))
 
-unfoldable pub hss_rules : List ℕ → List ℕ → List ℕ → List (Bool × Rule)
-hss_rules public message signature =
+-- those of the levels above the last, whose signatures are of keys
+unfoldable pub upper_climb_rules : ℕ → List ℕ → List ℕ → List (Bool × Rule)
+upper_climb_rules zero key bytes = []
+upper_climb_rules (suc n) key bytes = where_known (tree_type key) (λ type.
+    root_rules key (next_key type bytes) bytes
+    ++ upper_climb_rules n (next_key type bytes) (next_bytes type bytes))
+
+-- on the number of levels, and the types of the top key
+abbrev pub head_rules : List ℕ → List ℕ → List (Bool × Rule)
+head_rules public signature =
     let levels = u32_at public 0 in
-    let key = drop 4 public in
     (length public == 60, Length)
     ∷ (nat_le 1 levels && nat_le levels 8, Levels)
-    ∷ (is_some (tree_type key), Scheme)
+    ∷ (is_some (tree_type (drop 4 public)), Scheme)
     ∷ (nat_le 4 (length signature), Length)
     ∷ (u32_at signature 0 == levels - 1, Levels)
-    ∷ level_rules (levels - 1) key (drop 4 signature)
-    ++ climb_rules (levels - 1) key message (drop 4 signature)
+    ∷ []
+
+unfoldable pub hss_rules : List ℕ → List ℕ → List ℕ → List (Bool × Rule)
+hss_rules public message signature =
+    let below = u32_at public 0 - 1 in
+    head_rules public signature
+    ++ level_rules below (drop 4 public) (drop 4 signature)
+    ++ climb_rules below (drop 4 public) message (drop 4 signature)
+
+-- those of the rules in which the message has no part
+unfoldable pub rules_before_message : List ℕ → List ℕ → List (Bool × Rule)
+rules_before_message public signature =
+    let below = u32_at public 0 - 1 in
+    head_rules public signature
+    ++ level_rules below (drop 4 public) (drop 4 signature)
+    ++ upper_climb_rules below (drop 4 public) (drop 4 signature)
 
 -- the first rule that a signature breaks, or none
 abbrev pub lms_first : List ℕ → List ℕ → List ℕ → Option Rule

@@ -1,0 +1,15 @@
+pub mod Buffers
+pub mod Chains
+pub mod Digests
+pub mod DigitBits
+pub mod Widths
+pub mod Numbers
+pub mod Climbs
+pub mod RuleLists
+pub mod Roots
+pub mod Levels
+pub mod LawTests
+pub mod LawBytes
+pub mod LawOts
+pub mod LawLms
+pub mod LawHss
