@@ -1,0 +1,15 @@
+//! Trees of one-time keys with SHA-256 and 32-byte values (RFC 8554 sections 4 and 5), each made from one
+//! secret: their leaves, roots and children, and the signatures of their leaves.
+#![tactic(auto)]
+
+mod kept;
+mod nodes;
+mod secrets;
+mod signing;
+#[cfg(test)]
+mod tests;
+mod trees;
+
+pub use nodes::{leaf, root};
+pub use secrets::{Secret, child};
+pub use trees::Tree;

@@ -1,0 +1,63 @@
+ghost use Rattle.std.specs.Prelude.{◌≡◌, ◌^◌, ◌<◌, IsTrue, IfOk};
+ghost use Rattle.sz_lms.specs.Lms.{LmsOk};
+ghost use Rattle.sz_lms_tree.specs.Tree.{is_height, is_width, public_of, root_of, signature_of};
+ghost use Rattle.sz_lms_tree.specs.View.{tree_secret};
+
+use crate::kept::{kept_nodes, node_place};
+use crate::secrets::Secret;
+use crate::signing::leaf_signature;
+use std::alloc::Global;
+use std::marker::Model;
+use sz_base::{Bytes, OutOfMemory};
+
+/// A tree with all its nodes in memory, 32 bytes each. Contracts see it as what its secret stands for.
+#[derive(Drop)]
+pub struct Tree {
+    secret: Secret,
+    nodes: Vec<[u8; 32]>,
+}
+
+impl Model for Tree {
+    ghost use Rattle.sz_lms_tree.specs.Tree.{TreeSecret};
+    ghost use Rattle.sz_lms_tree.specs.Kept.{IsKept};
+    ghost use Rattle.sz_lms_tree.specs.View.{tree_secret};
+
+    ghost Value = { TreeSecret };
+
+    ghost view = { λ tree. tree_secret tree.secret };
+
+    ghost invariant = { λ tree. IsKept (tree_secret tree.secret) tree.nodes.items };
+}
+
+impl Tree {
+    /// The secret's tree, with all nodes computed and kept. Takes 32 bytes of memory for each node.
+    pub fn build(alloc: Global, secret: &Secret) -> Result<Tree, OutOfMemory>
+        requires height { IsTrue (is_height secret.now.height) }
+        requires width { IsTrue (is_width secret.now.width) }
+        ensures { IfOk result (λ tree. tree ≡ tree_secret secret.now) }
+    {
+        let nodes = kept_nodes(alloc, secret)?;
+        Ok(Tree {
+            secret: *secret,
+            nodes,
+        })
+    }
+
+    /// The tree's root, node 1.
+    pub fn root(&self) -> [u8; 32]
+        ensures { result ≡ root_of self.now }
+    {
+        self.nodes[node_place(&self.secret, 1)]
+    }
+
+    /// What leaf `q` signs the message with (RFC 8554 section 5.4): the same bytes for the same secret, `q` and
+    /// message. Each leaf is to sign one message only; the tree does not keep count.
+    pub fn sign_leaf(&self, alloc: Global, q: u32, message: &[u8]) -> Result<Bytes, OutOfMemory>
+        requires { q < 2 ^ self.now.height }
+        ensures exact { IfOk result (λ signature. signature ≡ signature_of self.now q message.now) }
+        ensures verifies { IfOk result (λ signature. LmsOk (public_of self.now) message.now signature) }
+    {
+        let signature = leaf_signature(alloc, &self.secret, self.nodes.as_slice(), q, message)?;
+        Ok(Bytes::from_vec(signature))
+    }
+}
