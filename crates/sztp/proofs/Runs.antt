@@ -5,12 +5,12 @@ use Rattle.sz_spec.specs.Cause.{Rose, HasCause}
 use Rattle.sz_spec.specs.Told.{Appends}
 use Rattle.sz_io.specs.Folder.{FileMap}
 use Rattle.sztp.specs.Answer.{Answer, Valid, NotValid, Usage, NoFile, FileFault, OutOfMemory, status_of, text_of, is_file_fault, IsNotValid, IsNoFile}
-use Rattle.sztp.specs.Check.{Paths, MayAnswer, MayAnswerTo, IsPrinted, answer_of, answer_to, paths_of}
+use Rattle.sztp.specs.Check.{Paths, MayAnswer, MayAnswerTo, IsPrinted, IsSigned, answer_of, answer_to, paths_of}
 
 -- it is that answer, if it blames neither the folder nor memory
 the_answer_to : (paths : Paths) (files : FileMap) (answer : Answer) → MayAnswerTo paths (Some files) answer → (is_file_fault answer ≡ true → ⊥) → status_of answer ≢ 70 → answer_to files paths ≡ answer
-the_answer_to paths files Valid may whole room = may
-the_answer_to paths files (NotValid rule) may whole room = may
+the_answer_to paths files Valid may whole room = may.0
+the_answer_to paths files (NotValid rule) may whole room = may.0
 the_answer_to paths files Usage may whole room = absurd may
 the_answer_to paths files (NoFile path) may whole room = may
 the_answer_to paths files (FileFault path) may whole room = absurd (whole refl)
@@ -55,6 +55,38 @@ not_valid_only words (Some files) Usage may is = absurd (omega arith)
 not_valid_only words (Some files) (NoFile path) may is = absurd (omega arith)
 not_valid_only words (Some files) (FileFault path) may is = absurd (omega arith)
 not_valid_only words (Some files) OutOfMemory may is = absurd (omega arith)
+
+signed_to : (paths : Paths) (files : FileMap) (answer : Answer) → MayAnswerTo paths (Some files) answer → status_of answer ≡ 0 → IsSigned files paths
+signed_to paths files Valid may is = may.1
+signed_to paths files (NotValid rule) may is = absurd (omega arith)
+signed_to paths files Usage may is = absurd may
+signed_to paths files (NoFile path) may is = absurd (omega arith)
+signed_to paths files (FileFault path) may is = absurd (omega arith)
+signed_to paths files OutOfMemory may is = absurd (omega arith)
+
+signed_only : (words : List (List ℕ)) (told : Option FileMap) (answer : Answer) → MayAnswer words told answer → status_of answer ≡ 0 → IfSome told (λ files. IfSome (paths_of words) (IsSigned files))
+signed_only words None answer may is = tt
+signed_only words (Some files) answer may is =
+    elim (paths_of words) as (λ paths. MatchOption paths (answer ≡ Usage) (λ paths. MayAnswerTo paths (Some files) answer) → IfSome paths (IsSigned files)) [
+      | None ↦ λ usage. tt
+      | Some paths ↦ λ may. signed_to paths files answer may is
+    ] may
+
+unsigned_to : (paths : Paths) (files : FileMap) (answer : Answer) → MayAnswerTo paths (Some files) answer → status_of answer ≡ 3 → ¬ (IsSigned files paths)
+unsigned_to paths files Valid may is = absurd (omega arith)
+unsigned_to paths files (NotValid rule) may is = may.1
+unsigned_to paths files Usage may is = absurd may
+unsigned_to paths files (NoFile path) may is = absurd (omega arith)
+unsigned_to paths files (FileFault path) may is = absurd (omega arith)
+unsigned_to paths files OutOfMemory may is = absurd (omega arith)
+
+unsigned_only : (words : List (List ℕ)) (told : Option FileMap) (answer : Answer) → MayAnswer words told answer → status_of answer ≡ 3 → IfSome told (λ files. IfSome (paths_of words) (λ paths. ¬ (IsSigned files paths)))
+unsigned_only words None answer may is = tt
+unsigned_only words (Some files) answer may is =
+    elim (paths_of words) as (λ paths. MatchOption paths (answer ≡ Usage) (λ paths. MayAnswerTo paths (Some files) answer) → IfSome paths (λ paths. ¬ (IsSigned files paths))) [
+      | None ↦ λ usage. tt
+      | Some paths ↦ λ may. unsigned_to paths files answer may is
+    ] may
 
 -- a status that blames a file comes where the folder's count rose, or the file isn't there
 blamed : (words : List (List ℕ)) (told : Option FileMap) (answer : Answer) (before now : ℕ) → MayAnswer words told answer → HasCause before now (is_file_fault answer) → status_of answer ≡ 33
@@ -107,3 +139,9 @@ module _ (words : List (List ℕ)) (told : Option FileMap) (before now status : 
 
   pub file : status ≡ 33 → Rose before now ⊎ IfSome told (λ files. IsNoFile (answer_of words files))
   file is = blamed words told answer before now may cause (status_is answer status unwritten written printed (λ other. omega arith) (λ other. omega arith) 33 is)
+
+  pub signed : status ≡ 0 → IfSome told (λ files. IfSome (paths_of words) (IsSigned files))
+  signed is = signed_only words told answer may (status_is answer status unwritten written printed (λ other. omega arith) (λ other. omega arith) 0 is)
+
+  pub unsigned : status ≡ 3 → IfSome told (λ files. IfSome (paths_of words) (λ paths. ¬ (IsSigned files paths)))
+  unsigned is = unsigned_only words told answer may (status_is answer status unwritten written printed (λ other. omega arith) (λ other. omega arith) 3 is)

@@ -4,6 +4,7 @@ use Rattle.std.specs.Option.{option_map_or}
 use Rattle.std.specs.Str.{bytes_eq}
 use Rattle.sz_spec.specs.Told.{Appends, AppendsFront}
 use Rattle.sz_io.specs.Folder.{FileMap, bytes_at}
+use Rattle.sz_lms.specs.Hss.{HssOk}
 use Rattle.sz_lms.specs.Rules.{Rule, hss_first}
 use Rattle.sztp.specs.Answer.{Answer, Valid, NotValid, Usage, NoFile, FileFault, OutOfMemory, status_of, text_of}
 
@@ -43,11 +44,22 @@ answer_to files paths =
 abbrev pub answer_of : List (List ℕ) → FileMap → Answer
 answer_of words files = option_map_or (answer_to files) (paths_of words) Usage
 
+-- The three files are there, and the signature is one of the file under the public key (RFC 8554 section 6.3).
+pub record IsSigned (files : FileMap) (paths : Paths) : Type 0 where
+  pub public : List ℕ
+  pub message : List ℕ
+  pub signature : List ℕ
+  pub public_is : bytes_at files paths.public ≡ Some public
+  pub message_is : bytes_at files paths.file ≡ Some message
+  pub signature_is : bytes_at files paths.signature ≡ Some signature
+  pub signed : HssOk public message signature
+
 -- The answers that may be given to these paths: the one over the files, where the folder tells them; a fault
 -- of the folder at one of the paths; or want of memory.
 abbrev pub MayAnswerTo : Paths → Option FileMap → Answer → Type 0
-MayAnswerTo paths told Valid = IfSome told (λ files. answer_to files paths ≡ Valid)
-MayAnswerTo paths told (NotValid rule) = IfSome told (λ files. answer_to files paths ≡ NotValid rule)
+MayAnswerTo paths told Valid = IfSome told (λ files. (answer_to files paths ≡ Valid) × IsSigned files paths)
+MayAnswerTo paths told (NotValid rule) =
+    IfSome told (λ files. (answer_to files paths ≡ NotValid rule) × ¬ (IsSigned files paths))
 MayAnswerTo paths told Usage = ⊥
 MayAnswerTo paths told (NoFile path) = IfSome told (λ files. answer_to files paths ≡ NoFile path)
 MayAnswerTo paths told (FileFault path) = (path ≡ paths.public) ⊎ ((path ≡ paths.file) ⊎ (path ≡ paths.signature))

@@ -1,8 +1,10 @@
-ghost use Rattle.std.specs.Prelude.{◌≡◌, false, Some, IfOk, IfErr, IfSome};
+ghost use Rattle.std.specs.Prelude.{◌≡◌, ◌↔◌, false, Some, IfOk, IfErr, IfSome};
 ghost use Rattle.sz_spec.specs.Cause.{HasCause};
 ghost use Rattle.sz_io.specs.Folder.{bytes_at};
-ghost use Rattle.sztp.specs.Answer.{is_file_fault};
-ghost use Rattle.sztp.specs.Check.{MayAnswer, MayAnswerTo, IsUnread, paths_to};
+ghost use Rattle.sz_lms.specs.Hss.{HssOk};
+ghost use Rattle.sz_lms.specs.Rules.{hss_first};
+ghost use Rattle.sztp.specs.Answer.{Valid, is_file_fault};
+ghost use Rattle.sztp.specs.Check.{MayAnswer, MayAnswerTo, IsUnread, paths_to, verdict_of};
 ghost use Rattle.sztp.specs.View.{seen, blames_folder};
 
 use crate::answer::Answer;
@@ -10,6 +12,7 @@ use std::alloc::Global;
 use sz_base::{Bytes, Failed, Text};
 use sz_io::{Folder, Found, read_whole};
 use sz_lms::hss_verify;
+use sz_lms::law::hss_rules_decide_ok;
 
 /// What the words come to: `check PUBLIC FILE SIGNATURE` checks an HSS signature of a file.
 pub fn answer<'a, F: Folder>(alloc: Global, words: &'a [Text], folder: &mut F) -> Answer<'a>
@@ -47,12 +50,19 @@ fn check<'a, F: Folder>(
     let public = read(alloc, public, folder)?;
     let message = read(alloc, file, folder)?;
     let signature = read(alloc, signature, folder)?;
-    Ok(
-        match hss_verify(public.as_slice(), message.as_slice(), signature.as_slice()) {
-            Ok(()) => Answer::Valid,
-            Err(fault) => Answer::NotValid(fault),
-        },
-    )
+    Ok(verdict(public.as_slice(), message.as_slice(), signature.as_slice()))
+}
+
+// Whether the signature is one of the message, or the first rule that it breaks.
+fn verdict<'a>(public: &[u8], message: &[u8], signature: &[u8]) -> Answer<'a>
+    ensures rule { seen result ≡ verdict_of (hss_first public.now message.now signature.now) }
+    ensures signed { (seen result ≡ Valid) ↔ HssOk public.now message.now signature.now }
+{
+    hss_rules_decide_ok();
+    match hss_verify(public, message, signature) {
+        Ok(()) => Answer::Valid,
+        Err(fault) => Answer::NotValid(fault),
+    }
 }
 
 // The bytes of a file of any size, or the answer that there are none to be had.

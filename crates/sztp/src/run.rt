@@ -3,7 +3,7 @@ ghost use Rattle.sz_spec.specs.Cause.{HasCause, Rose};
 ghost use Rattle.sz_spec.specs.Told.{Appends};
 ghost use Rattle.sztp.specs.Answer.{Answer as AnswerOf, Valid, status_of, text_of, is_file_fault, IsNotValid, IsNoFile};
 ghost use Rattle.sztp.specs.View.{seen};
-ghost use Rattle.sztp.specs.Check.{MayAnswer, IsPrinted, answer_of, paths_of};
+ghost use Rattle.sztp.specs.Check.{MayAnswer, IsPrinted, IsSigned, answer_of, paths_of};
 
 use crate::answer::Answer;
 use crate::check::answer;
@@ -39,7 +39,11 @@ pub fn run<F: Folder, O: Sink>(alloc: Global, words: &[Text], world: &mut World<
 
     ensures usage { result.0 ≡ 2 → paths_of words.now ≡ None }
     ensures valid { result.0 ≡ 0 → IfSome (F.files world.old.folder.now) (λ files. answer_of words.now files ≡ Valid) }
+    ensures signed { result.0 ≡ 0 → IfSome (F.files world.old.folder.now) (λ files.
+        IfSome (paths_of words.now) (IsSigned files)) }
     ensures not_valid { result.0 ≡ 3 → IfSome (F.files world.old.folder.now) (λ files. IsNotValid (answer_of words.now files)) }
+    ensures unsigned { result.0 ≡ 3 → IfSome (F.files world.old.folder.now) (λ files.
+        IfSome (paths_of words.now) (λ paths. ¬ (IsSigned files paths))) }
     ensures file { result.0 ≡ 33 → Rose (F.faults world.old.folder.now) (F.faults world.new.folder.now)
         ⊎ IfSome (F.files world.old.folder.now) (λ files. IsNoFile (answer_of words.now files)) }
 
