@@ -12,7 +12,6 @@ use std::alloc::Global;
 use sz_base::{Bytes, Failed, Text};
 use sz_io::{Folder, Found, read_whole};
 use sz_lms::hss_verify;
-use sz_lms::law::hss_rules_decide_ok;
 
 /// What the words come to: `check PUBLIC FILE SIGNATURE` checks an HSS signature of a file.
 pub fn answer<'a, F: Folder>(alloc: Global, words: &'a [Text], folder: &mut F) -> Answer<'a>
@@ -58,7 +57,6 @@ fn verdict<'a>(public: &[u8], message: &[u8], signature: &[u8]) -> Answer<'a>
     ensures rule { seen result ≡ verdict_of (hss_first public.now message.now signature.now) }
     ensures signed { (seen result ≡ Valid) ↔ HssOk public.now message.now signature.now }
 {
-    hss_rules_decide_ok();
     match hss_verify(public, message, signature) {
         Ok(()) => Answer::Valid,
         Err(fault) => Answer::NotValid(fault),
