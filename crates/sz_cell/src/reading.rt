@@ -48,11 +48,12 @@ pub fn attach<D: Disk>(disk: &mut D, region: Region) -> Result<Ready, AttachFaul
 /// Reads the value of a cell.
 pub fn read<D: Disk>(ready: &Ready, disk: &mut D, into: &mut [u8]) -> Result<(), Failed>
     requires within { ready.now.at + region_size ready.now.capacity ≤ D.size_of disk.old }
-    requires says { IsReady (D.reads disk.old) (D.may_leave disk.old) ready.now }
     requires length { length into.old ≡ ready.now.size }
-    ensures payload { OnOk result (ReadMeans ready.now.at ready.now.capacity (D.reads disk.old)
+    ensures payload { IsReady (D.reads disk.old) (D.may_leave disk.old) ready.now
+        → OnOk result (ReadMeans ready.now.at ready.now.capacity (D.reads disk.old)
         (value ready.now.slot ready.now.sequence into.new)) }
-    ensures says { IsReady (D.reads disk.new) (D.may_leave disk.new) ready.now }
+    ensures says { IsReady (D.reads disk.old) (D.may_leave disk.old) ready.now
+        → IsReady (D.reads disk.new) (D.may_leave disk.new) ready.now }
     ensures seen { D.reads disk.new ≡ D.reads disk.old }
     ensures crash { NothingNew (D.may_leave disk.old) (D.may_leave disk.new) }
     ensures any_moment { LeavesOnly D.moment D.left_since disk.old disk.new (D.may_leave disk.old) }

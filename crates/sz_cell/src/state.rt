@@ -75,17 +75,20 @@ impl Ready {
     /// Closes the other slot, so that it can be filled.
     pub fn clear<D: Disk>(self, disk: &mut D) -> Result<Cleared, ClearFault>
         requires within { self.at + region_size self.capacity ≤ D.size_of disk.old }
-        requires says { IsReady (D.reads disk.old) (D.may_leave disk.old) self }
         ensures same { IfOk result (λ cleared. cleared ≡ self) }
-        ensures ok { OnOk result (IsCleared (D.reads disk.new) (D.may_leave disk.new) self) }
-        ensures value { OnOk result
+        ensures ok { IsReady (D.reads disk.old) (D.may_leave disk.old) self
+            → OnOk result (IsCleared (D.reads disk.new) (D.may_leave disk.new) self) }
+        ensures value { IsReady (D.reads disk.old) (D.may_leave disk.old) self
+            → OnOk result
             (read_meaning self.at self.capacity (D.reads disk.new) ≡ read_meaning self.at self.capacity (D.reads disk.old)) }
         ensures exhausted { (sequence : ℕ) → (result ≡ Err (ClearFault.Exhausted sequence)) ↔
             ((sequence ≡ self.sequence) × (self.sequence + 1 ≡ 2 ^ 64)) }
         ensures untouched { (sequence : ℕ) → result ≡ Err (ClearFault.Exhausted sequence) → disk.new ≡ disk.old }
-        ensures any_moment { LeavesOnly D.moment D.left_since disk.old disk.new
+        ensures any_moment { IsReady (D.reads disk.old) (D.may_leave disk.old) self
+            → LeavesOnly D.moment D.left_since disk.old disk.new
             (MeansAsRead self.at self.capacity (D.reads disk.old)) }
-        ensures now { (image : List ℕ) → D.may_leave disk.new image
+        ensures now { IsReady (D.reads disk.old) (D.may_leave disk.old) self
+            → (image : List ℕ) → D.may_leave disk.new image
             → MeansAsRead self.at self.capacity (D.reads disk.old) image }
         ensures elsewhere { LeavesOnly D.moment D.left_since disk.old disk.new
             (TornFrom self.at (region_size self.capacity) (D.may_leave disk.old)) }
@@ -122,18 +125,22 @@ impl Cleared {
     /// Writes the next value into the closed slot, behind its gate.
     pub fn fill<D: Disk>(self, disk: &mut D, payload: &[u8]) -> Result<Filled, Failed>
         requires within { self.at + region_size self.capacity ≤ D.size_of disk.old }
-        requires says { IsCleared (D.reads disk.old) (D.may_leave disk.old) self }
         requires fits { length payload.now ≤ self.capacity }
         ensures same { IfOk result
             (λ filled. (filled.kept ≡ self) × (filled.size ≡ length payload.now)) }
-        ensures ok { OnOk result
+        ensures ok { IsCleared (D.reads disk.old) (D.may_leave disk.old) self
+            → OnOk result
             (IsFilled (D.reads disk.new) (D.may_leave disk.new) self (length payload.now)) }
-        ensures payload { OnOk result (HasPayload self (D.reads disk.new) payload.now) }
-        ensures value { OnOk result
+        ensures payload { IsCleared (D.reads disk.old) (D.may_leave disk.old) self
+            → OnOk result (HasPayload self (D.reads disk.new) payload.now) }
+        ensures value { IsCleared (D.reads disk.old) (D.may_leave disk.old) self
+            → OnOk result
             (read_meaning self.at self.capacity (D.reads disk.new) ≡ read_meaning self.at self.capacity (D.reads disk.old)) }
-        ensures any_moment { LeavesOnly D.moment D.left_since disk.old disk.new
+        ensures any_moment { IsCleared (D.reads disk.old) (D.may_leave disk.old) self
+            → LeavesOnly D.moment D.left_since disk.old disk.new
             (MeansAsRead self.at self.capacity (D.reads disk.old)) }
-        ensures now { (image : List ℕ) → D.may_leave disk.new image
+        ensures now { IsCleared (D.reads disk.old) (D.may_leave disk.old) self
+            → (image : List ℕ) → D.may_leave disk.new image
             → MeansAsRead self.at self.capacity (D.reads disk.old) image }
         ensures elsewhere { LeavesOnly D.moment D.left_since disk.old disk.new
             (TornFrom self.at (region_size self.capacity) (D.may_leave disk.old)) }
@@ -162,16 +169,20 @@ impl Filled {
     /// Opens the gate of the slot that was filled: its value is the cell's from then on.
     pub fn publish<D: Disk>(self, disk: &mut D) -> Result<Ready, Failed>
         requires within { self.kept.at + region_size self.kept.capacity ≤ D.size_of disk.old }
-        requires says { IsFilled (D.reads disk.old) (D.may_leave disk.old) self.kept self.size }
         ensures same { IfOk result (λ ready. ready ≡ opened self) }
-        ensures ok { OnOk result (IsReady (D.reads disk.new) (D.may_leave disk.new) (opened self)) }
-        ensures published { OnOk result
+        ensures ok { IsFilled (D.reads disk.old) (D.may_leave disk.old) self.kept self.size
+            → OnOk result (IsReady (D.reads disk.new) (D.may_leave disk.new) (opened self)) }
+        ensures published { IsFilled (D.reads disk.old) (D.may_leave disk.old) self.kept self.size
+            → OnOk result
             ((image : List ℕ) → D.may_leave disk.new image → meaning self.kept.at self.kept.capacity image ≡ filled_value self.kept (D.reads disk.old)) }
-        ensures value { OnOk result
+        ensures value { IsFilled (D.reads disk.old) (D.may_leave disk.old) self.kept self.size
+            → OnOk result
             (read_meaning self.kept.at self.kept.capacity (D.reads disk.new) ≡ filled_value self.kept (D.reads disk.old)) }
-        ensures any_moment { LeavesOnly D.moment D.left_since disk.old disk.new
+        ensures any_moment { IsFilled (D.reads disk.old) (D.may_leave disk.old) self.kept self.size
+            → LeavesOnly D.moment D.left_since disk.old disk.new
             (MeansOldOrNew self.kept (D.reads disk.old)) }
-        ensures now { (image : List ℕ) → D.may_leave disk.new image
+        ensures now { IsFilled (D.reads disk.old) (D.may_leave disk.old) self.kept self.size
+            → (image : List ℕ) → D.may_leave disk.new image
             → MeansOldOrNew self.kept (D.reads disk.old) image }
         ensures elsewhere { LeavesOnly D.moment D.left_since disk.old disk.new
             (TornFrom self.kept.at (region_size self.kept.capacity) (D.may_leave disk.old)) }

@@ -22,7 +22,7 @@ read-requires g c =
     omega (arith, is, inside.1, c.requires.within, c.requires.length, c.ready.invariant.2, ap (λ (k : Kept). k.size) c.ready.view_is, ap (λ (k : Kept). k.capacity) c.ready.view_is)
 
 pub returns-clause-payload : goal.returns-clause-payload
-returns-clause-payload g c =
+returns-clause-payload g c says =
     let kept = c.args.ready.now in
     let is : c.place.result + 16 ≡ place kept.at kept.capacity kept.slot + 16 = ap (λ k. k + 16) c.place.ensures ∙ ap (λ (k : Kept). place k.at k.capacity k.slot + 16) c.ready.view_is in
     let two : kept.slot < 2 = omega (arith, ap (λ (k : Kept). k.slot) c.ready.view_is, c.ready.invariant.0) in
@@ -30,5 +30,5 @@ returns-clause-payload g c =
     on_ok_weaker c.read.result
     (λ gives. read_means kept.at kept.capacity (g.D.Disk.reads c.args.disk.now) (value kept.slot kept.sequence c.read.new.into) (λ bytes told.
     let left = g.met.D.Disk.reads_as_left c.args.disk.now bytes told in
-    read_value kept bytes c.read.new.into (c.requires.says.means bytes left) (omega arith) (rw is at (read_gives (g.D.Disk.reads c.args.disk.now) (c.place.result + 16) c.read.new.into bytes gives told)) (omega (arith, inside.1, c.requires.within, g.met.D.Disk.sized c.args.disk.now bytes left))))
+    read_value kept bytes c.read.new.into (says.means bytes left) (omega arith) (rw is at (read_gives (g.D.Disk.reads c.args.disk.now) (c.place.result + 16) c.read.new.into bytes gives told)) (omega (arith, inside.1, c.requires.within, g.met.D.Disk.sized c.args.disk.now bytes left))))
     c.read.ensures.bytes

@@ -17,16 +17,16 @@ write_gate-requires g c =
     omega (arith, is, inside.1, c.requires.within)
 
 pub returns-in_err-write_gate-clause-any_moment : goal.returns-in_err-write_gate-clause-any_moment
-returns-in_err-write_gate-clause-any_moment g c =
+returns-in_err-write_gate-clause-any_moment g c says =
     let kept = c.args.self.kept in
     let is : c.place.result ≡ place kept.at kept.capacity (1 - kept.slot) = c.place.ensures ∙ ap (λ (p : Pending). place p.kept.at p.kept.capacity (1 - p.kept.slot)) c.self.view_is in
     leaves-weaker g.D.Disk.moment g.D.Disk.left_since c.args.disk.now c.write_gate.new.disk _ _
-    (publish_images kept _ _ c.args.self.size c.requires.says)
+    (publish_images kept _ _ c.args.self.size says)
     (rw is at c.write_gate.ensures.any_moment)
 
 pub returns-in_err-write_gate-clause-now : goal.returns-in_err-write_gate-clause-now
-returns-in_err-write_gate-clause-now g c =
-    leaves-now g.D.Disk.moment g.D.Disk.left_since g.D.Disk.may_leave g.met.D.Disk.counts_now c.args.disk.now c.write_gate.new.disk _ (returns-in_err-write_gate-clause-any_moment g c)
+returns-in_err-write_gate-clause-now g c says =
+    leaves-now g.D.Disk.moment g.D.Disk.left_since g.D.Disk.may_leave g.met.D.Disk.counts_now c.args.disk.now c.write_gate.new.disk _ (returns-in_err-write_gate-clause-any_moment g c says)
 
 pub returns-in_err-write_gate-clause-elsewhere : goal.returns-in_err-write_gate-clause-elsewhere
 returns-in_err-write_gate-clause-elsewhere g c =
@@ -38,16 +38,16 @@ returns-in_err-write_gate-clause-elsewhere g c =
     (rw is at c.write_gate.ensures.any_moment)
 
 pub returns-clause-any_moment : goal.returns-clause-any_moment
-returns-clause-any_moment g c =
+returns-clause-any_moment g c says =
     let kept = c.args.self.kept in
     let is : c.place.result ≡ place kept.at kept.capacity (1 - kept.slot) = c.place.ensures ∙ ap (λ (p : Pending). place p.kept.at p.kept.capacity (1 - p.kept.slot)) c.self.view_is in
     leaves-weaker g.D.Disk.moment g.D.Disk.left_since c.args.disk.now c.write_gate.new.disk _ _
-    (publish_images kept _ _ c.args.self.size c.requires.says)
+    (publish_images kept _ _ c.args.self.size says)
     (rw is at c.write_gate.ensures.any_moment)
 
 pub returns-clause-now : goal.returns-clause-now
-returns-clause-now g c =
-    leaves-now g.D.Disk.moment g.D.Disk.left_since g.D.Disk.may_leave g.met.D.Disk.counts_now c.args.disk.now c.write_gate.new.disk _ (returns-clause-any_moment g c)
+returns-clause-now g c says =
+    leaves-now g.D.Disk.moment g.D.Disk.left_since g.D.Disk.may_leave g.met.D.Disk.counts_now c.args.disk.now c.write_gate.new.disk _ (returns-clause-any_moment g c says)
 
 pub returns-clause-elsewhere : goal.returns-clause-elsewhere
 returns-clause-elsewhere g c =
@@ -59,31 +59,31 @@ returns-clause-elsewhere g c =
     (rw is at c.write_gate.ensures.any_moment)
 
 pub returns-clause-ok : goal.returns-clause-ok
-returns-clause-ok g c =
+returns-clause-ok g c says =
     let kept = c.args.self.kept in
     let is : c.place.result ≡ place kept.at kept.capacity (1 - kept.slot) = c.place.ensures ∙ ap (λ (p : Pending). place p.kept.at p.kept.capacity (1 - p.kept.slot)) c.self.view_is in
     let inside = place_inside kept.at kept.capacity (1 - kept.slot) (omega arith) in
-    publish_done kept _ _ c.args.self.size c.requires.says _ _
+    publish_done kept _ _ c.args.self.size says _ _
     (λ bytes left. omega (arith, inside.1, c.requires.within, g.met.D.Disk.sized c.args.disk.now bytes left))
     (λ bytes told. g.met.D.Disk.reads_as_left c.args.disk.now bytes told)
     (rw is at c.in_ok-write_gate.ensures.written) c.in_ok-write_gate.ensures.settled
     (leaves-now g.D.Disk.moment g.D.Disk.left_since g.D.Disk.may_leave g.met.D.Disk.counts_now c.args.disk.now c.write_gate.new.disk _ (rw is at c.write_gate.ensures.any_moment))
 
 pub returns-clause-published : goal.returns-clause-published
-returns-clause-published g c =
+returns-clause-published g c says =
     let kept = c.args.self.kept in
     let is : c.place.result ≡ place kept.at kept.capacity (1 - kept.slot) = c.place.ensures ∙ ap (λ (p : Pending). place p.kept.at p.kept.capacity (1 - p.kept.slot)) c.self.view_is in
     let inside = place_inside kept.at kept.capacity (1 - kept.slot) (omega arith) in
-    publish_means kept _ _ c.args.self.size c.requires.says _ _
+    publish_means kept _ _ c.args.self.size says _ _
     (λ bytes left. omega (arith, inside.1, c.requires.within, g.met.D.Disk.sized c.args.disk.now bytes left))
     (λ bytes told. g.met.D.Disk.reads_as_left c.args.disk.now bytes told)
     (rw is at c.in_ok-write_gate.ensures.written) c.in_ok-write_gate.ensures.settled
     (leaves-now g.D.Disk.moment g.D.Disk.left_since g.D.Disk.may_leave g.met.D.Disk.counts_now c.args.disk.now c.write_gate.new.disk _ (rw is at c.write_gate.ensures.any_moment))
 
 pub returns-clause-value : goal.returns-clause-value
-returns-clause-value g c =
+returns-clause-value g c says =
     let kept = c.args.self.kept in
     read_meaning_is kept kept.at kept.capacity (g.D.Disk.reads c.write_gate.new.disk) (g.D.Disk.may_leave c.write_gate.new.disk) (filled_value kept (g.D.Disk.reads c.args.disk.now))
     (λ bytes told. g.met.D.Disk.reads_as_left c.write_gate.new.disk bytes told)
     (λ untold. ap (filled_value kept) (option_map-none (patched c.place.result (open_gate ∷ [])) (g.D.Disk.reads c.args.disk.now) (sym c.in_ok-write_gate.ensures.written ∙ untold)))
-    (returns-clause-published g c)
+    (returns-clause-published g c says)

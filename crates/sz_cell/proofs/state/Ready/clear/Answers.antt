@@ -12,8 +12,8 @@ use Rattle.sz_cell.proofs.Runs.{quiet, then_torn, option_map-none}
 use Rattle.sz_cell.proofs.state.Ready.clear.Goals as goal
 
 pub returns-then-sequence-clause-any_moment : goal.returns-then-sequence-clause-any_moment
-returns-then-sequence-clause-any_moment g c =
-    leaves-at_once g.D.Disk.moment g.D.Disk.left_since g.D.Disk.may_leave g.met.D.Disk.only_now c.args.disk.now _ (ready_means c.args.self _ _ c.requires.says)
+returns-then-sequence-clause-any_moment g c says =
+    leaves-at_once g.D.Disk.moment g.D.Disk.left_since g.D.Disk.may_leave g.met.D.Disk.only_now c.args.disk.now _ (ready_means c.args.self _ _ says)
 
 pub read-requires : goal.read-requires
 read-requires g c =
@@ -23,21 +23,21 @@ read-requires g c =
     omega (arith, is, inside.1, c.requires.within)
 
 pub returns-in_err-read-clause-any_moment : goal.returns-in_err-read-clause-any_moment
-returns-in_err-read-clause-any_moment g c =
-    quiet g.D.Disk.moment g.D.Disk.left_since g.D.Disk.may_leave g.met.D.Disk.only_now c.args.disk.now c.read.new.self _ c.read.ensures.time c.read.ensures.crash (ready_means c.args.self _ _ c.requires.says)
+returns-in_err-read-clause-any_moment g c says =
+    quiet g.D.Disk.moment g.D.Disk.left_since g.D.Disk.may_leave g.met.D.Disk.only_now c.args.disk.now c.read.new.self _ c.read.ensures.time c.read.ensures.crash (ready_means c.args.self _ _ says)
 
 pub returns-then-gate-clause-any_moment : goal.returns-then-gate-clause-any_moment
-returns-then-gate-clause-any_moment g c =
-    quiet g.D.Disk.moment g.D.Disk.left_since g.D.Disk.may_leave g.met.D.Disk.only_now c.args.disk.now c.read.new.self _ c.read.ensures.time c.read.ensures.crash (ready_means c.args.self _ _ c.requires.says)
+returns-then-gate-clause-any_moment g c says =
+    quiet g.D.Disk.moment g.D.Disk.left_since g.D.Disk.may_leave g.met.D.Disk.only_now c.args.disk.now c.read.new.self _ c.read.ensures.time c.read.ensures.crash (ready_means c.args.self _ _ says)
 
 pub returns-then-gate-clause-ok : goal.returns-then-gate-clause-ok
-returns-then-gate-clause-ok g c =
+returns-then-gate-clause-ok g c says =
     let kept = c.args.self in
     let is : c.place-place.result ≡ place kept.at kept.capacity (1 - kept.slot) = c.place-place.ensures ∙ ap (λ (k : Kept). place k.at k.capacity (1 - k.slot)) c.self.view_is in
     let given = gate_given kept (g.D.Disk.reads c.args.disk.now) c.read.new.into (rw is at c.in_ok-read.ensures.bytes) (omega arith) in
     record {
-      ready = ready_fewer kept _ _ _ _ c.requires.says c.read.ensures.seen c.read.ensures.crash;
-      closed = λ image left gate. spare_each kept _ _ c.requires.says (λ s. s.gate ≡ open_gate → ⊥) (λ bytes told here. c.if-gate.true (sym (given bytes told) ∙ here)) image (c.read.ensures.crash image left) gate;
+      ready = ready_fewer kept _ _ _ _ says c.read.ensures.seen c.read.ensures.crash;
+      closed = λ image left gate. spare_each kept _ _ says (λ s. s.gate ≡ open_gate → ⊥) (λ bytes told here. c.if-gate.true (sym (given bytes told) ∙ here)) image (c.read.ensures.crash image left) gate;
     }
 
 pub write_gate-requires : goal.write_gate-requires
@@ -48,22 +48,22 @@ write_gate-requires g c =
     omega (arith, is, inside.1, c.requires.within, c.read.ensures.size)
 
 pub returns-in_err-write_gate-clause-any_moment : goal.returns-in_err-write_gate-clause-any_moment
-returns-in_err-write_gate-clause-any_moment g c =
+returns-in_err-write_gate-clause-any_moment g c says =
     let kept = c.args.self in
     let is : c.place-place.result ≡ place kept.at kept.capacity (1 - kept.slot) = c.place-place.ensures ∙ ap (λ (k : Kept). place k.at k.capacity (1 - k.slot)) c.self.view_is in
     let given = gate_given kept (g.D.Disk.reads c.args.disk.now) c.read.new.into (rw is at c.in_ok-read.ensures.bytes) (omega arith) in
-    let first = quiet g.D.Disk.moment g.D.Disk.left_since g.D.Disk.may_leave g.met.D.Disk.only_now c.args.disk.now c.read.new.self (MeansAsRead kept.at kept.capacity (g.D.Disk.reads c.args.disk.now)) c.read.ensures.time c.read.ensures.crash (ready_means kept _ _ c.requires.says) in
+    let first = quiet g.D.Disk.moment g.D.Disk.left_since g.D.Disk.may_leave g.met.D.Disk.only_now c.args.disk.now c.read.new.self (MeansAsRead kept.at kept.capacity (g.D.Disk.reads c.args.disk.now)) c.read.ensures.time c.read.ensures.crash (ready_means kept _ _ says) in
     then_torn g.D.Disk.moment g.D.Disk.left_since g.D.Disk.may_leave c.args.disk.now c.read.new.self c.write_gate.new.disk _ _ _ first (rw is at c.write_gate.ensures.any_moment)
-    (λ image torn. (clear_images kept _ _ c.requires.says (λ bytes told. given bytes told ∙ c.if-gate.false) image (torn.0, c.read.ensures.crash torn.0 torn.1, torn.2)).1)
+    (λ image torn. (clear_images kept _ _ says (λ bytes told. given bytes told ∙ c.if-gate.false) image (torn.0, c.read.ensures.crash torn.0 torn.1, torn.2)).1)
 
 pub returns-clause-any_moment : goal.returns-clause-any_moment
-returns-clause-any_moment g c =
+returns-clause-any_moment g c says =
     let kept = c.args.self in
     let is : c.place-place.result ≡ place kept.at kept.capacity (1 - kept.slot) = c.place-place.ensures ∙ ap (λ (k : Kept). place k.at k.capacity (1 - k.slot)) c.self.view_is in
     let given = gate_given kept (g.D.Disk.reads c.args.disk.now) c.read.new.into (rw is at c.in_ok-read.ensures.bytes) (omega arith) in
-    let first = quiet g.D.Disk.moment g.D.Disk.left_since g.D.Disk.may_leave g.met.D.Disk.only_now c.args.disk.now c.read.new.self (MeansAsRead kept.at kept.capacity (g.D.Disk.reads c.args.disk.now)) c.read.ensures.time c.read.ensures.crash (ready_means kept _ _ c.requires.says) in
+    let first = quiet g.D.Disk.moment g.D.Disk.left_since g.D.Disk.may_leave g.met.D.Disk.only_now c.args.disk.now c.read.new.self (MeansAsRead kept.at kept.capacity (g.D.Disk.reads c.args.disk.now)) c.read.ensures.time c.read.ensures.crash (ready_means kept _ _ says) in
     then_torn g.D.Disk.moment g.D.Disk.left_since g.D.Disk.may_leave c.args.disk.now c.read.new.self c.write_gate.new.disk _ _ _ first (rw is at c.write_gate.ensures.any_moment)
-    (λ image torn. (clear_images kept _ _ c.requires.says (λ bytes told. given bytes told ∙ c.if-gate.false) image (torn.0, c.read.ensures.crash torn.0 torn.1, torn.2)).1)
+    (λ image torn. (clear_images kept _ _ says (λ bytes told. given bytes told ∙ c.if-gate.false) image (torn.0, c.read.ensures.crash torn.0 torn.1, torn.2)).1)
 
 pub returns-in_err-write_gate-clause-elsewhere : goal.returns-in_err-write_gate-clause-elsewhere
 returns-in_err-write_gate-clause-elsewhere g c =
@@ -86,20 +86,20 @@ returns-clause-elsewhere g c =
     (λ image torn. (torn.0, c.read.ensures.crash torn.0 torn.1, ChangedIn-wider _ _ _ _ torn.0 image (omega (arith, inside.0)) (omega (arith, inside.1)) torn.2))
 
 pub returns-clause-ok : goal.returns-clause-ok
-returns-clause-ok g c =
+returns-clause-ok g c says =
     let kept = c.args.self in
     let is : c.place-place.result ≡ place kept.at kept.capacity (1 - kept.slot) = c.place-place.ensures ∙ ap (λ (k : Kept). place k.at k.capacity (1 - k.slot)) c.self.view_is in
     let inside = place_inside kept.at kept.capacity (1 - kept.slot) (omega arith) in
     let given = gate_given kept (g.D.Disk.reads c.args.disk.now) c.read.new.into (rw is at c.in_ok-read.ensures.bytes) (omega arith) in
     let torn : (image : List ℕ) → g.D.Disk.may_leave c.write_gate.new.disk image → TornFrom (place kept.at kept.capacity (1 - kept.slot)) 1 (g.D.Disk.may_leave c.args.disk.now) image =
     λ image left. let from = leaves-now g.D.Disk.moment g.D.Disk.left_since g.D.Disk.may_leave g.met.D.Disk.counts_now c.read.new.self c.write_gate.new.disk _ (rw is at c.write_gate.ensures.any_moment) image left in (from.0, c.read.ensures.crash from.0 from.1, from.2) in
-    clear_done kept _ _ c.requires.says _ _ (λ bytes told. given bytes told ∙ c.if-gate.false)
+    clear_done kept _ _ says _ _ (λ bytes told. given bytes told ∙ c.if-gate.false)
     (λ bytes told. omega (arith, inside.1, c.requires.within, g.met.D.Disk.sized c.args.disk.now bytes (g.met.D.Disk.reads_as_left c.args.disk.now bytes told)))
     (rw is at c.in_ok-write_gate.ensures.written ∙ ap (option_map (patched (place kept.at kept.capacity (1 - kept.slot)) (0 ∷ []))) c.read.ensures.seen)
     c.in_ok-write_gate.ensures.settled torn
 
 pub returns-clause-value : goal.returns-clause-value
-returns-clause-value g c =
+returns-clause-value g c says =
     let kept = c.args.self in
     let is : c.place-place.result ≡ place kept.at kept.capacity (1 - kept.slot) = c.place-place.ensures ∙ ap (λ (k : Kept). place k.at k.capacity (1 - k.slot)) c.self.view_is in
     let given = gate_given kept (g.D.Disk.reads c.args.disk.now) c.read.new.into (rw is at c.in_ok-read.ensures.bytes) (omega arith) in
@@ -107,24 +107,24 @@ returns-clause-value g c =
     (λ bytes told. g.met.D.Disk.reads_as_left c.write_gate.new.disk bytes told)
     (λ none. ap (read_meaning kept.at kept.capacity) (option_map-none (patched c.place-place.result (0 ∷ [])) (g.D.Disk.reads c.args.disk.now) (sym (c.in_ok-write_gate.ensures.written ∙ ap (option_map (patched c.place-place.result (0 ∷ []))) c.read.ensures.seen) ∙ none)))
     (λ image left. let from = leaves-now g.D.Disk.moment g.D.Disk.left_since g.D.Disk.may_leave g.met.D.Disk.counts_now c.read.new.self c.write_gate.new.disk _ (rw is at c.write_gate.ensures.any_moment) image left in
-    (clear_images kept _ _ c.requires.says (λ bytes told. given bytes told ∙ c.if-gate.false) image (from.0, c.read.ensures.crash from.0 from.1, from.2)).1)
+    (clear_images kept _ _ says (λ bytes told. given bytes told ∙ c.if-gate.false) image (from.0, c.read.ensures.crash from.0 from.1, from.2)).1)
 
 pub returns-then-sequence-clause-now : goal.returns-then-sequence-clause-now
-returns-then-sequence-clause-now g c =
-    leaves-now g.D.Disk.moment g.D.Disk.left_since g.D.Disk.may_leave g.met.D.Disk.counts_now c.args.disk.now c.args.disk.now _ (returns-then-sequence-clause-any_moment g c)
+returns-then-sequence-clause-now g c says =
+    leaves-now g.D.Disk.moment g.D.Disk.left_since g.D.Disk.may_leave g.met.D.Disk.counts_now c.args.disk.now c.args.disk.now _ (returns-then-sequence-clause-any_moment g c says)
 
 pub returns-in_err-read-clause-now : goal.returns-in_err-read-clause-now
-returns-in_err-read-clause-now g c =
-    leaves-now g.D.Disk.moment g.D.Disk.left_since g.D.Disk.may_leave g.met.D.Disk.counts_now c.args.disk.now c.read.new.self _ (returns-in_err-read-clause-any_moment g c)
+returns-in_err-read-clause-now g c says =
+    leaves-now g.D.Disk.moment g.D.Disk.left_since g.D.Disk.may_leave g.met.D.Disk.counts_now c.args.disk.now c.read.new.self _ (returns-in_err-read-clause-any_moment g c says)
 
 pub returns-then-gate-clause-now : goal.returns-then-gate-clause-now
-returns-then-gate-clause-now g c =
-    leaves-now g.D.Disk.moment g.D.Disk.left_since g.D.Disk.may_leave g.met.D.Disk.counts_now c.args.disk.now c.read.new.self _ (returns-then-gate-clause-any_moment g c)
+returns-then-gate-clause-now g c says =
+    leaves-now g.D.Disk.moment g.D.Disk.left_since g.D.Disk.may_leave g.met.D.Disk.counts_now c.args.disk.now c.read.new.self _ (returns-then-gate-clause-any_moment g c says)
 
 pub returns-in_err-write_gate-clause-now : goal.returns-in_err-write_gate-clause-now
-returns-in_err-write_gate-clause-now g c =
-    leaves-now g.D.Disk.moment g.D.Disk.left_since g.D.Disk.may_leave g.met.D.Disk.counts_now c.args.disk.now c.write_gate.new.disk _ (returns-in_err-write_gate-clause-any_moment g c)
+returns-in_err-write_gate-clause-now g c says =
+    leaves-now g.D.Disk.moment g.D.Disk.left_since g.D.Disk.may_leave g.met.D.Disk.counts_now c.args.disk.now c.write_gate.new.disk _ (returns-in_err-write_gate-clause-any_moment g c says)
 
 pub returns-clause-now : goal.returns-clause-now
-returns-clause-now g c =
-    leaves-now g.D.Disk.moment g.D.Disk.left_since g.D.Disk.may_leave g.met.D.Disk.counts_now c.args.disk.now c.write_gate.new.disk _ (returns-clause-any_moment g c)
+returns-clause-now g c says =
+    leaves-now g.D.Disk.moment g.D.Disk.left_since g.D.Disk.may_leave g.met.D.Disk.counts_now c.args.disk.now c.write_gate.new.disk _ (returns-clause-any_moment g c says)
