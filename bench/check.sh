@@ -43,7 +43,7 @@ for name in h5w8 h10w4 h10w1 h5w8-64mib; do
     head -c $((size - 1)) "$data/signature" >"$work/short"
     verdict=$("$program" check "$data/public" "$work/message" "$data/signature")
     [ "$verdict" = valid ] || { echo "$name: $verdict"; exit 1; }
-    runs=200
+    runs=500
     if [ "$(cat "$data/size")" -gt 1000000 ]; then runs=3; fi
     whole=$(batch "$data/public" "$work/message" "$data/signature" $runs)
     empty=$(batch "$data/public" "$work/message" "$work/short" $runs)
