@@ -1,5 +1,8 @@
+//! Hosts, and the reader of their texts.
+
 ghost use Rattle.std.specs.Prelude.{◌≡◌, ◌≢◌, ◌↔◌, List, ℕ, IsTrue, IfOk, IfSome, IfNone};
 ghost use Rattle.sz_base.specs.Host.{in_brackets, is_ipv6_byte, is_name_byte, IsHost, IsIpv6Text, IsName};
+ghost use Rattle.sz_base.specs.Reading.{ReadsText};
 
 use crate::{BaseFault, OutOfMemory, Text};
 use std::alloc::Global;
@@ -26,9 +29,7 @@ impl Model for Host {
 impl Host {
     /// Reads a host. `Form` exactly where the text is none.
     pub fn read(alloc: Global, text: &[u8]) -> Result<Self, BaseFault>
-        ensures ok { IfOk result (λ host. host ≡ text.now) }
-        ensures form { IfOk result (λ _. IsHost text.now) }
-        ensures refused { (result ≡ Err BaseFault.Form) ↔ ¬ IsHost text.now }
+        ensures reads { ReadsText IsHost text.now result }
     {
         if !is_host(text) {
             return Err(BaseFault::Form);

@@ -1,4 +1,7 @@
+//! Serial numbers, and the reader of their texts.
+
 ghost use Rattle.std.specs.Prelude.{◌≡◌, ◌↔◌, IsTrue, IfOk};
+ghost use Rattle.sz_base.specs.Reading.{ReadsText};
 ghost use Rattle.sz_base.specs.Serial.{is_serial_byte, IsSerial};
 
 use crate::{BaseFault, OutOfMemory, Text};
@@ -26,9 +29,7 @@ impl Model for Serial {
 impl Serial {
     /// Reads a serial number. `Form` exactly where the text is none.
     pub fn read(alloc: Global, text: &[u8]) -> Result<Self, BaseFault>
-        ensures ok { IfOk result (λ serial. serial ≡ text.now) }
-        ensures form { IfOk result (λ _. IsSerial text.now) }
-        ensures refused { (result ≡ Err BaseFault.Form) ↔ ¬ IsSerial text.now }
+        ensures reads { ReadsText IsSerial text.now result }
     {
         if !is_serial(text) {
             return Err(BaseFault::Form);
