@@ -10,6 +10,9 @@ use base64::engine::general_purpose::STANDARD;
 use hex::FromHex;
 use std::alloc::Global;
 
+// How many bytes four symbols stand for that are not padded.
+const WHOLE_GROUP: usize = 3;
+
 /// The 32 bytes of a text of 32 pairs of hexadecimal digits, in either case, joined by colons. `None`
 /// exactly where the text is none. Takes no memory.
 pub fn colon_hex(text: &[u8]) -> Option<[u8; 32]>
@@ -76,7 +79,7 @@ fn is_base64(text: &[u8]) -> bool
         let Some(size) = group_size(four) else {
             return false;
         };
-        if size != 3 && !after.is_empty() {
+        if size != WHOLE_GROUP && !after.is_empty() {
             return false;
         }
         rest = after;
