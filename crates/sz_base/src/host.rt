@@ -8,6 +8,10 @@ use crate::{BaseFault, OutOfMemory, Text};
 use std::alloc::Global;
 use std::marker::Model;
 
+const MOST_NAME_BYTES: usize = 255;
+
+const MOST_IPV6_BYTES: usize = 45;
+
 /// Where to connect to: a name of 1 to 255 bytes of letters, digits, `-`, `_` and `.`, or an IPv6 text in
 /// brackets. Contracts see it as its bytes.
 #[derive(Debug, Drop)]
@@ -78,7 +82,7 @@ fn inside_brackets(text: &[u8]) -> Option<&[u8]>
 fn is_name(text: &[u8]) -> bool
     ensures { IsTrue result ↔ IsName text.now }
 {
-    matches!(text.len(), 1..=255) && text.iter().all(|byte| is_name_byte(*byte))
+    matches!(text.len(), 1..=MOST_NAME_BYTES) && text.iter().all(|byte| is_name_byte(*byte))
 }
 
 fn is_name_byte(byte: u8) -> bool
@@ -90,7 +94,7 @@ fn is_name_byte(byte: u8) -> bool
 fn is_ipv6_text(text: &[u8]) -> bool
     ensures { IsTrue result ↔ IsIpv6Text text.now }
 {
-    matches!(text.len(), 2..=45)
+    matches!(text.len(), 2..=MOST_IPV6_BYTES)
         && text.iter().all(|byte| is_ipv6_byte(*byte))
         && text.iter().filter(|byte| **byte == b':').count() >= 2
 }

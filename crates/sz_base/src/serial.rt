@@ -8,6 +8,8 @@ use crate::{BaseFault, OutOfMemory, Text};
 use std::alloc::Global;
 use std::marker::Model;
 
+const MOST_BYTES: usize = 64;
+
 /// A device's serial number: 1 to 64 bytes of letters, digits, `-`, `_`, `.`, `:` and `+`, the first of
 /// them no point. Contracts see it as its bytes.
 #[derive(Debug, Drop)]
@@ -58,7 +60,9 @@ impl Serial {
 fn is_serial(text: &[u8]) -> bool
     ensures { IsTrue result ↔ IsSerial text.now }
 {
-    matches!(text.len(), 1..=64) && text[0] != b'.' && text.iter().all(|byte| is_serial_byte(*byte))
+    matches!(text.len(), 1..=MOST_BYTES)
+        && text[0] != b'.'
+        && text.iter().all(|byte| is_serial_byte(*byte))
 }
 
 fn is_serial_byte(byte: u8) -> bool
