@@ -2,6 +2,7 @@
 use Rattle.std.proofs.Common.{◌≡◌, ℕ, zero, suc, ◌+◌, ◌-◌, ◌*◌, ◌/◌, ◌%◌, ◌^◌, ◌<◌, ◌≤◌, List, [], ◌∷◌, ◌++◌, length, take, drop, get_or, refl, sym, ◌∙◌, ap, arith}
 use Rattle.std.specs.List.{flat_map}
 use Rattle.std.proofs.Math.Seq.{drop-append-add, drop-cons}
+use Rattle.std.proofs.Math.ListN.{drop_of_length-le}
 use Rattle.std.proofs.lemmas.List.{drop-drop}
 use Rattle.sz_lms.specs.declared.types.OtsType.{OtsType}
 use Rattle.sz_lms.specs.declared.types.OtsType.TheVariants.{W1, W2, W4, W8}
@@ -87,3 +88,26 @@ digit-shifted W1 i bytes b h = digit-place 1 i bytes (omega arith) h ∙ read-1 
 digit-shifted W2 i bytes b h = digit-place 2 i bytes (omega arith) h ∙ read-2 (2 * i % 8) _ _ (b (2 * i / 8)) (omega arith) (omega arith)
 digit-shifted W4 i bytes b h = digit-place 4 i bytes (omega arith) h ∙ read-4 (4 * i % 8) _ _ (b (4 * i / 8)) (omega arith) (omega arith)
 digit-shifted W8 i bytes b h = digit-place 8 i bytes (omega arith) h ∙ read-8 (8 * i % 8) _ _ (b (8 * i / 8)) (omega arith) (omega arith)
+
+-- a digit whose first bit lies in a byte lies in it whole
+pub digit-within : (kind : OtsType) (i n : ℕ) → (facts_of kind).width * i / 8 < n → (facts_of kind).width * (i + 1) ≤ 8 * n
+digit-within W1 i n h = omega arith
+digit-within W2 i n h = omega arith
+digit-within W4 i n h = omega arith
+digit-within W8 i n h = omega arith
+
+no-bits : (w n : ℕ) → number_of_bits (take w (drop {A = ℕ} n [])) ≡ 0
+no-bits zero n = refl
+no-bits (suc w) n = rw (drop_nil n) refl
+
+-- past the last byte the digits are 0
+digit-past : (w i a r : ℕ) (bytes : List ℕ) → w * i ≡ 8 * a + r → length bytes ≤ a → digit w bytes i ≡ 0
+unfolding digit
+digit-past w i a r bytes e h =
+    let none : drop a bytes ≡ [] = drop_of_length-le bytes h in
+    let bits : drop (w * i) (flat_map bits_of_byte bytes) ≡ drop r [] =
+    rw e (sym (drop-drop r (8 * a) (flat_map bits_of_byte bytes)) ∙ ap (drop r) (drop-bits a bytes ∙ rw none refl)) in
+    rw bits (no-bits w r)
+
+pub digit-none : (w i : ℕ) (bytes : List ℕ) → length bytes ≤ w * i / 8 → digit w bytes i ≡ 0
+digit-none w i bytes h = digit-past w i (w * i / 8) (w * i % 8) bytes (omega arith) h

@@ -104,7 +104,7 @@ signature_spelled bytes type h l =
 pub level_ok : (key : List ℕ) (type : TreeType) (message bytes : List ℕ) → AreBytes bytes → length key ≡ 56
     → tree_type key ≡ Some type → Stands key type bytes → root_from key type message bytes ≡ drop 24 key
     → LmsOk key message (take (lms_length type) bytes)
-unfolding root_from
+unfolding root_from ots_key
 level_ok key type message bytes h size known stands root =
     let codes = both_parts (height_of (u32_at key 0)) (ots_type (u32_at key 4)) type known in
     let whole : lms_length type ≤ length bytes = stands.whole in
@@ -245,7 +245,7 @@ ok_ots key message signature bytes more ok e =
 
 pub ok_level : (key message signature rest : List ℕ) (ok : LmsOk key message signature)
     → Level key (types_of key message signature ok) message (signature ++ rest)
-unfolding root_from
+unfolding root_from ots_key
 ok_level key message signature rest ok =
     let type : TreeType = types_of key message signature ok in
     let bytes : List ℕ = signature ++ rest in

@@ -7,7 +7,7 @@ use Rattle.sz_lms.specs.Bits.{u32_at, values_of}
 use Rattle.sz_lms.specs.Ots.{OtsType, ots_type, ots_key, ots_signature, AreValues}
 use Rattle.sz_lms.specs.Rules.{ots_length, ots_rules, ots_key_at}
 use Rattle.sz_lms.specs.Spelled.{IsOtsSignature}
-use Rattle.sz_lms.proofs.LawTests.{Pass, pass_one, one_passes, none_passes, pass_ots_known, ots_known_passes}
+use Rattle.sz_lms.proofs.LawTests.{Pass, pass_one, one_passes, none_passes, pass_known, known_passes}
 use Rattle.sz_lms.proofs.LawBytes.{small_number_spelled, number_at, part_at, behind, three_parts, values_are, concat-values_of, values_at, length-values}
 
 pub ots_code_small : (code : ℕ) (type : OtsType) → ots_type code ≡ Some type → code < 256
@@ -69,14 +69,14 @@ form_of signature type known size =
 ots_form : (signature : List ℕ) → Pass (ots_rules signature) → IsOtsSignature signature
 ots_form signature pass =
     let there = pass_one _ _ _ pass in
-    let known = pass_ots_known _ _ there.1 in
+    let known = pass_known _ _ there.1 in
     form_of signature known.0 known.1 (eqb-true (length signature) (ots_length known.0) (pass_one _ _ _ known.2).0)
 
 ots_passes : (signature : List ℕ) (type : OtsType) → ots_type (u32_at signature 0) ≡ Some type
     → length signature ≡ ots_length type → Pass (ots_rules signature)
 ots_passes signature type known size =
     one_passes _ _ _ (le-leb 4 (length signature) (omega arith))
-    (ots_known_passes _ _ type known (one_passes _ _ _ (eq-eqb (length signature) (ots_length type) size) none_passes))
+    (known_passes _ _ type known (one_passes _ _ _ (eq-eqb (length signature) (ots_length type) size) none_passes))
 
 -- what a spelling tells of the bytes
 form_parts : (signature : List ℕ) (form : IsOtsSignature signature)

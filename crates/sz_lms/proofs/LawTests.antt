@@ -3,7 +3,7 @@ use Rattle.std.proofs.Common.{◌≡◌, Bool, true, false, cond, List, [], ◌�
 use Rattle.std.proofs.lemmas.Bool.{false≢true}
 use Rattle.std.proofs.lemmas.Option.{none-some}
 use Rattle.sz_lms.specs.Ots.{OtsType}
-use Rattle.sz_lms.specs.Rules.{Rule, Scheme, first_failing, where_ots_known, TreeType, where_known}
+use Rattle.sz_lms.specs.Rules.{Rule, Scheme, first_failing, TreeType, where_known}
 
 -- no test fails
 abbrev pub Pass : List (Bool × Rule) → Type 0
@@ -42,25 +42,16 @@ append_passes (test ∷ front) back f h =
 
 -- ---- where types are known
 
-pub pass_ots_known : (o : Option OtsType) (rules : OtsType → List (Bool × Rule)) → Pass (where_ots_known o rules)
-    → (type : OtsType) × (o ≡ Some type) × Pass (rules type)
-pass_ots_known None rules h = absurd (false≢true (pass_one false Scheme [] h).0)
-pass_ots_known (Some type) rules h = (type, refl, h)
-
-pub ots_known_passes : (o : Option OtsType) (rules : OtsType → List (Bool × Rule)) (type : OtsType) → o ≡ Some type
-    → Pass (rules type) → Pass (where_ots_known o rules)
-ots_known_passes o rules type e h = rw e h
-
-pub pass_known : (o : Option TreeType) (rules : TreeType → List (Bool × Rule)) → Pass (where_known o rules)
-    → (type : TreeType) × (o ≡ Some type) × Pass (rules type)
+pub pass_known : {T : Type 0} (o : Option T) (rules : T → List (Bool × Rule)) → Pass (where_known o rules)
+    → (type : T) × (o ≡ Some type) × Pass (rules type)
 pass_known None rules h = absurd (false≢true (pass_one false Scheme [] h).0)
 pass_known (Some type) rules h = (type, refl, h)
 
-pub known_passes : (o : Option TreeType) (rules : TreeType → List (Bool × Rule)) (type : TreeType) → o ≡ Some type
+pub known_passes : {T : Type 0} (o : Option T) (rules : T → List (Bool × Rule)) (type : T) → o ≡ Some type
     → Pass (rules type) → Pass (where_known o rules)
 known_passes o rules type e h = rw e h
 
 -- the tests of known types, once it is known which
-pub pass_at : (o : Option TreeType) (rules : TreeType → List (Bool × Rule)) (type : TreeType) → o ≡ Some type
+pub pass_at : {T : Type 0} (o : Option T) (rules : T → List (Bool × Rule)) (type : T) → o ≡ Some type
     → Pass (where_known o rules) → Pass (rules type)
 pass_at o rules type e h = rw e at h

@@ -1,6 +1,7 @@
 -- The rules of several levels, one level at a time.
 use Rattle.std.proofs.Common.{◌≡◌, ℕ, zero, suc, ◌+◌, ◌-◌, ◌==◌, Bool, true, false, List, [], ◌∷◌, ◌++◌, length, drop, nat_le, Option, Some, None, refl, sym, ◌∙◌, ap, append_assoc, arith}
-use Rattle.sz_lms.specs.Rules.{Rule, Length, TreeType, first_failing, where_known, tree_type, lms_length, signature_rules, front_rules, next_rules, next_key, next_bytes, level_rules, root_rules, climb_rules, upper_climb_rules, head_rules, hss_rules, hss_first, rules_before_message, lms_rules, lms_first}
+use Rattle.sz_lms.specs.Parts.{front_rules, next_rules, upper_climb_rules, rules_before_message}
+use Rattle.sz_lms.specs.Rules.{Rule, Length, TreeType, first_failing, where_known, tree_type, lms_length, signature_rules, next_key, next_bytes, level_rules, root_rules, climb_rules, head_rules, hss_rules, hss_first, lms_rules, lms_first}
 use Rattle.sz_lms.specs.Bits.{u32_at}
 use Rattle.sz_lms.proofs.RuleLists.{front-fails, front-passes, known, test-fails, test-passes}
 

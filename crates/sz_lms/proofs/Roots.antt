@@ -9,7 +9,7 @@ use Rattle.sz_lms.proofs.RuleLists.{known}
 
 pub root-from_digest : (key : List ℕ) (type : TreeType) (message bytes : List ℕ) →
     root_from key type message bytes ≡ root_of_digest key type (signed_digest key bytes message) bytes
-unfolding root_from ots_key
+unfolding root_from
 root-from_digest key type message bytes = refl
 
 -- the rule on the root is a test of the digest

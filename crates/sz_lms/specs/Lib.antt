@@ -4,5 +4,6 @@ pub mod Lms
 pub mod Hss
 pub mod Rules
 pub mod View
+pub mod Parts
 pub mod Check
 pub mod Spelled

@@ -12,13 +12,23 @@ pub record OtsType : Type 0 where
   pub chains : ℕ
   pub shift : ℕ
 
+abbrev pub LMOTS_SHA256_N32_W1 : OtsType
+LMOTS_SHA256_N32_W1 = record { width = 1; chains = 265; shift = 7 }
+
+abbrev pub LMOTS_SHA256_N32_W2 : OtsType
+LMOTS_SHA256_N32_W2 = record { width = 2; chains = 133; shift = 6 }
+
+abbrev pub LMOTS_SHA256_N32_W4 : OtsType
+LMOTS_SHA256_N32_W4 = record { width = 4; chains = 67; shift = 4 }
+
+abbrev pub LMOTS_SHA256_N32_W8 : OtsType
+LMOTS_SHA256_N32_W8 = record { width = 8; chains = 34; shift = 0 }
+
 -- the LM-OTS type with this code
 abbrev pub ots_type : ℕ → Option OtsType
 ots_type code =
-    if code == 1 then Some (record { width = 1; chains = 265; shift = 7 })
-    else if code == 2 then Some (record { width = 2; chains = 133; shift = 6 })
-    else if code == 3 then Some (record { width = 4; chains = 67; shift = 4 })
-    else if code == 4 then Some (record { width = 8; chains = 34; shift = 0 })
+    if code == 1 then Some LMOTS_SHA256_N32_W1 else if code == 2 then Some LMOTS_SHA256_N32_W2
+    else if code == 3 then Some LMOTS_SHA256_N32_W4 else if code == 4 then Some LMOTS_SHA256_N32_W8
     else None
 
 -- Each hash is over the tree's identifier I, a number in four bytes, a number or tag in two, and the rest.
@@ -31,6 +41,10 @@ D_PBLC = 0x8080
 
 abbrev pub D_MESG : ℕ
 D_MESG = 0x8181
+
+-- what is hashed before the message
+abbrev pub message_head : List ℕ → ℕ → List ℕ → List ℕ
+message_head id q randomizer = id ++ to_be_bytes w32 q ++ to_be_bytes w16 D_MESG ++ randomizer
 
 -- what is signed in place of the message: Q of section 4.5
 abbrev pub message_digest : List ℕ → ℕ → List ℕ → List ℕ → List ℕ

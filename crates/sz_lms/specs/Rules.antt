@@ -3,9 +3,8 @@
 use Rattle.std.specs.Prelude.{ℕ, zero, suc, ◌+◌, ◌-◌, ◌*◌, ◌^◌, ◌==◌, ◌&&◌, nat_lt, nat_le, if◌then◌else◌, Bool, false, List, [], ◌∷◌, ◌++◌, length, take, drop, Option, Some, None}
 use Rattle.std.specs.Option.{is_some}
 use Rattle.std.specs.Str.{bytes_eq}
-use Rattle.std.specs.Int.{w16, w32, to_be_bytes}
 use Rattle.sz_lms.specs.Bits.{u32_at, values_of}
-use Rattle.sz_lms.specs.Ots.{OtsType, ots_type, ots_key, key_of_digest, message_digest, D_MESG}
+use Rattle.sz_lms.specs.Ots.{OtsType, ots_type, ots_key, key_of_digest, message_digest}
 use Rattle.sz_lms.specs.Lms.{height_of, leaf_node, climb}
 
 -- what a rule speaks of
@@ -21,22 +20,22 @@ unfoldable pub first_failing : List (Bool × Rule) → Option Rule
 first_failing [] = None
 first_failing (test ∷ tests) = if test.0 then first_failing tests else Some test.1
 
+-- the tests of a known type, or the one that it isn't known
+abbrev pub where_known : {T : Type 0} → Option T → (T → List (Bool × Rule)) → List (Bool × Rule)
+where_known None rules = (false, Scheme) ∷ []
+where_known (Some type) rules = rules type
+
 -- ---- one-time signatures
 
 -- how long a one-time signature of the type is
 abbrev pub ots_length : OtsType → ℕ
 ots_length type = 36 + 32 * type.chains
 
--- the tests of a known type, or the one that there is none
-abbrev pub where_ots_known : Option OtsType → (OtsType → List (Bool × Rule)) → List (Bool × Rule)
-where_ots_known None rules = (false, Scheme) ∷ []
-where_ots_known (Some type) rules = rules type
-
 -- on a one-time signature by itself
 abbrev pub ots_rules : List ℕ → List (Bool × Rule)
 ots_rules signature =
     (nat_le 4 (length signature), Length)
-    ∷ where_ots_known (ots_type (u32_at signature 0)) (λ type. (length signature == ots_length type, Length) ∷ [])
+    ∷ where_known (ots_type (u32_at signature 0)) (λ type. (length signature == ots_length type, Length) ∷ [])
 
 -- the key that one leads to
 abbrev pub ots_key_at : List ℕ → ℕ → OtsType → List ℕ → List ℕ → List ℕ
@@ -58,11 +57,6 @@ both (Some height) (Some type) = Some (record { height = height; ots = type })
 abbrev pub tree_type : List ℕ → Option TreeType
 tree_type key = both (height_of (u32_at key 0)) (ots_type (u32_at key 4))
 
--- the tests of known types, or the one that they aren't known
-abbrev pub where_known : Option TreeType → (TreeType → List (Bool × Rule)) → List (Bool × Rule)
-where_known None rules = (false, Scheme) ∷ []
-where_known (Some type) rules = rules type
-
 -- how long an LMS signature of the types is: q, the one-time signature, the tree's type and the path
 abbrev pub lms_length : TreeType → ℕ
 lms_length type = 4 + ots_length type.ots + 4 + 32 * type.height
@@ -78,22 +72,12 @@ signature_rules key type bytes =
     ∷ (nat_lt (u32_at bytes 0) (2 ^ type.height), LeafNumber)
     ∷ []
 
--- the same, where the types are not known yet
-abbrev pub front_rules : List ℕ → List ℕ → List (Bool × Rule)
-front_rules key bytes = where_known (tree_type key) (λ type. signature_rules key type bytes)
-
--- what is hashed before the message to get Q of the one-time signature in the LMS signature at the front
--- of the bytes
-abbrev pub message_head : List ℕ → List ℕ → List ℕ
-message_head key bytes =
-    take 16 (drop 8 key) ++ to_be_bytes w32 (u32_at bytes 0) ++ to_be_bytes w16 D_MESG ++ take 32 (drop 4 (drop 4 bytes))
-
 -- what the one-time signature in the LMS signature at the front of the bytes signs: Q of the message
 abbrev pub signed_digest : List ℕ → List ℕ → List ℕ → List ℕ
 signed_digest key bytes message =
     message_digest (take 16 (drop 8 key)) (u32_at bytes 0) (take 32 (drop 4 (drop 4 bytes))) message
 
--- the root that it leads to from there
+-- the root that it leads to from a digest Q
 abbrev pub root_of_digest : List ℕ → TreeType → List ℕ → List ℕ → List ℕ
 root_of_digest key type digest bytes =
     let id = take 16 (drop 8 key) in
@@ -105,12 +89,7 @@ root_of_digest key type digest bytes =
 
 -- the root that the LMS signature at the front of the bytes leads to
 unfoldable pub root_from : List ℕ → TreeType → List ℕ → List ℕ → List ℕ
-root_from key type message bytes =
-    let id = take 16 (drop 8 key) in
-    let q = u32_at bytes 0 in
-    climb id (2 ^ type.height + q)
-    (leaf_node id (2 ^ type.height + q) (ots_key_at id q type.ots (drop 4 bytes) message))
-    (values_of type.height (drop (8 + ots_length type.ots) bytes))
+root_from key type message bytes = root_of_digest key type (signed_digest key bytes message) bytes
 
 -- on the way up from the leaf
 abbrev pub root_rules : List ℕ → List ℕ → List ℕ → List (Bool × Rule)
@@ -135,11 +114,6 @@ next_key type bytes = take 56 (drop (lms_length type) bytes)
 abbrev pub next_bytes : TreeType → List ℕ → List ℕ
 next_bytes type bytes = drop (lms_length type + 56) bytes
 
--- on the key behind an LMS signature, and on the LMS signature behind that key
-abbrev pub next_rules : TreeType → List ℕ → List (Bool × Rule)
-next_rules type bytes =
-    (nat_le (lms_length type + 56) (length bytes), Length) ∷ front_rules (next_key type bytes) (next_bytes type bytes)
-
 -- lengths, types and leaf numbers, from the front: n more levels stand below this key
 unfoldable pub level_rules : ℕ → List ℕ → List ℕ → List (Bool × Rule)
 level_rules zero key bytes = where_known (tree_type key) (λ type.
@@ -155,13 +129,6 @@ climb_rules zero key message bytes = root_rules key message bytes
 climb_rules (suc n) key message bytes = where_known (tree_type key) (λ type.
     root_rules key (next_key type bytes) bytes
     ++ climb_rules n (next_key type bytes) message (next_bytes type bytes))
-
--- those of the levels above the last, whose signatures are of keys
-unfoldable pub upper_climb_rules : ℕ → List ℕ → List ℕ → List (Bool × Rule)
-upper_climb_rules zero key bytes = []
-upper_climb_rules (suc n) key bytes = where_known (tree_type key) (λ type.
-    root_rules key (next_key type bytes) bytes
-    ++ upper_climb_rules n (next_key type bytes) (next_bytes type bytes))
 
 -- on the number of levels, and the types of the top key
 abbrev pub head_rules : List ℕ → List ℕ → List (Bool × Rule)
@@ -180,14 +147,6 @@ hss_rules public message signature =
     head_rules public signature
     ++ level_rules below (drop 4 public) (drop 4 signature)
     ++ climb_rules below (drop 4 public) message (drop 4 signature)
-
--- those of the rules in which the message has no part
-unfoldable pub rules_before_message : List ℕ → List ℕ → List (Bool × Rule)
-rules_before_message public signature =
-    let below = u32_at public 0 - 1 in
-    head_rules public signature
-    ++ level_rules below (drop 4 public) (drop 4 signature)
-    ++ upper_climb_rules below (drop 4 public) (drop 4 signature)
 
 -- the first rule that a signature breaks, or none
 abbrev pub lms_first : List ℕ → List ℕ → List ℕ → Option Rule

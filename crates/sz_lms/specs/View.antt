@@ -1,6 +1,5 @@
 -- What the crate's own types stand for in the definitions.
-use Rattle.std.specs.Prelude.{◌≡◌, ◌<◌, ◌≤◌, ◌^◌, ℕ, List, length, Option, Some, None, Result, Ok, Err}
-use Rattle.sz_lms.specs.Bits.{u32_at}
+use Rattle.std.specs.Prelude.{ℕ, List, Option, Some, None, Result, Ok, Err, codes}
 use Rattle.sz_lms.specs.Ots as spec
 use Rattle.sz_lms.specs.Rules as rules
 use Rattle.sz_lms.specs.declared.fault.HssFault.{HssFault}
@@ -13,10 +12,10 @@ use Rattle.sz_lms.specs.declared.types.LmsType.TheVariants.{H5, H10, H15, H20, H
 
 -- what a one-time type fixes
 abbrev pub facts_of : OtsType → spec.OtsType
-facts_of W1 = record { width = 1; chains = 265; shift = 7 }
-facts_of W2 = record { width = 2; chains = 133; shift = 6 }
-facts_of W4 = record { width = 4; chains = 67; shift = 4 }
-facts_of W8 = record { width = 8; chains = 34; shift = 0 }
+facts_of W1 = spec.LMOTS_SHA256_N32_W1
+facts_of W2 = spec.LMOTS_SHA256_N32_W2
+facts_of W4 = spec.LMOTS_SHA256_N32_W4
+facts_of W8 = spec.LMOTS_SHA256_N32_W8
 
 -- the height of a tree of a type
 abbrev pub tree_height : LmsType → ℕ
@@ -43,10 +42,10 @@ abbrev pub broken_rule : {T : Type 0} → Result T HssFault → Option rules.Rul
 broken_rule (Ok _) = None
 broken_rule (Err fault) = Some (rule_of fault)
 
--- The bytes begin with an LMS signature whose lengths, types and leaf number are in order under the key.
-pub record IsLevel (key bytes : List ℕ) (types : KeyTypes) : Type 0 where
-  pub key_length : length key ≡ 56
-  pub known : rules.tree_type key ≡ Some (types_of types)
-  pub whole : rules.lms_length (types_of types) ≤ length bytes
-  pub is_leaf : u32_at bytes 0 < 2 ^ (types_of types).height
-  pub in_order : rules.first_failing (rules.front_rules key bytes) ≡ None
+-- the word that a fault shows
+abbrev pub word_of : HssFault → List ℕ
+word_of Length = codes "length"
+word_of Levels = codes "levels"
+word_of Scheme = codes "scheme"
+word_of LeafNumber = codes "leaf"
+word_of Root = codes "root"

@@ -1,8 +1,10 @@
+//! Writing over a part of a buffer.
+
 ghost use Rattle.std.specs.Prelude.{◌≡◌, ◌+◌, ◌≤◌, ◌++◌, length, take, drop};
 
 /// Writes bytes over those of a buffer, from a place on.
 #[inline(always)]
-pub fn put(buffer: &mut [u8], at: usize, bytes: &[u8])
+pub(crate) fn put(buffer: &mut [u8], at: usize, bytes: &[u8])
     requires { at + length bytes.now ≤ length buffer.old }
     ensures { buffer.new ≡ take at buffer.old ++ bytes.now ++ drop (at + length bytes.now) buffer.old }
 {

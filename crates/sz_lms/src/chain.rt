@@ -1,4 +1,6 @@
-ghost use Rattle.std.specs.Prelude.{◌≡◌, ◌+◌, ◌<◌, ◌++◌, ◌∷◌, length, take, drop};
+//! Chains of hashes (RFC 8554 section 4.3).
+
+ghost use Rattle.std.specs.Prelude.{◌≡◌, ◌-◌, ◌<◌, ◌++◌, ◌∷◌, length, take, drop};
 ghost use Rattle.std.specs.Int.{w16, w32, to_be_bytes};
 ghost use Rattle.sha2.specs.Sha256.{sha256};
 ghost use Rattle.sz_lms.specs.Ots.{chain};
@@ -12,8 +14,7 @@ const STEP_PLACE: usize = 22;
 const VALUE_PLACE: usize = 23;
 
 // The bytes that step 0 of a chain hashes: I, q, the chain's number, the step's and the value.
-fn step_input(id: &[u8; 16], q: u32, index: u16, value: &[u8]) -> [u8; 55]
-    requires { length value.now ≡ 32 }
+fn step_input(id: &[u8; 16], q: u32, index: u16, value: &[u8; 32]) -> [u8; 55]
     ensures { result ≡ id.now ++ to_be_bytes w32 q ++ to_be_bytes w16 index ++ 0 ∷ value.now }
 {
     let mut input = [0u8; 55];
@@ -35,14 +36,13 @@ fn take_step(input: &mut [u8; 55], j: u8)
     put(input, VALUE_PLACE, &digest);
 }
 
-/// Takes a value along a chain, for so many steps from step `first` on (RFC 8554 section 4.3).
-pub fn run_chain(id: &[u8; 16], q: u32, index: u16, first: u8, steps: u8, value: &[u8]) -> [u8; 32]
-    requires within { first + steps < 256 }
-    requires value { length value.now ≡ 32 }
-    ensures { result ≡ chain id.now q index first steps value.now }
+/// Takes a value along chain `index` of leaf `q`, from step `from` on and before step `to` (RFC 8554 section
+/// 4.3). Where `to` is not past `from`, the value stays.
+pub fn run_chain(id: &[u8; 16], q: u32, index: u16, from: u8, to: u8, value: &[u8; 32]) -> [u8; 32]
+    ensures { result ≡ chain id.now q index from (to - from) value.now }
 {
     let mut input = step_input(id, q, index, value);
-    for j in first..first + steps {
+    for j in from..to {
         take_step(&mut input, j);
     }
     let mut end = [0; 32];

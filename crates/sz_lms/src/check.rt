@@ -1,5 +1,8 @@
+//! The check of a signature that takes the message in pieces.
+
 ghost use Rattle.std.specs.Prelude.{◌≡◌, ◌++◌, ℕ, List, [], Some, IfOk, IfErr};
-ghost use Rattle.sz_lms.specs.Rules.{first_failing, hss_first, hss_rules, root_rules, rules_before_message};
+ghost use Rattle.sz_lms.specs.Parts.{rules_before_message};
+ghost use Rattle.sz_lms.specs.Rules.{first_failing, hss_first, hss_rules, root_rules};
 ghost use Rattle.sz_lms.specs.View.{broken_rule, rule_of};
 
 use crate::HssFault;

@@ -1,3 +1,5 @@
+//! The digits that a one-time signature runs its chains by (RFC 8554 sections 3.1.3 and 4.4).
+
 ghost use Rattle.std.specs.Prelude.{◌≡◌, ◌+◌, ◌-◌, ◌*◌, ◌/◌, ◌%◌, ◌^◌, ◌<◌, ◌≤◌, ◌++◌, length};
 ghost use Rattle.sz_lms.specs.Bits.{digit};
 ghost use Rattle.sz_lms.specs.Ots.{checksum, signed_bytes};
@@ -7,17 +9,18 @@ ghost use Rattle.sz_lms.specs.Ots.{missing_of};
 use crate::OtsType;
 use crate::buffer::put;
 
-/// Digit `i` of bytes, in the type's width (RFC 8554 section 3.1.3).
+/// Digit `i` of bytes, in the type's width (RFC 8554 section 3.1.3). Past the last one it is 0.
 #[inline]
 pub fn digit(kind: OtsType, bytes: &[u8], i: u16) -> u8
-    requires { (facts_of kind).width * (i + 1) ≤ 8 * length bytes.now }
     ensures value { result ≡ digit (facts_of kind).width bytes.now i }
     ensures below { result < 2 ^ (facts_of kind).width }
 {
     let width = kind.width();
     let bit = width * usize::from(i);
-    let shift = 8 - width - bit % 8;
-    (bytes[bit / 8] >> shift) & kind.last_digit()
+    let Some(byte) = bytes.get(bit / 8) else {
+        return 0;
+    };
+    (byte >> (8 - width - bit % 8)) & kind.last_digit()
 }
 
 // How much the digits of Q lack of being the greatest, all together.

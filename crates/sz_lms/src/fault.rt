@@ -1,3 +1,8 @@
+//! Why a signature is refused.
+
+ghost use Rattle.std.specs.Prelude.{Some};
+ghost use Rattle.sz_lms.specs.View.{word_of};
+
 use std::error::Error;
 use std::fmt;
 
@@ -17,6 +22,8 @@ pub enum HssFault {
 }
 
 impl fmt::Display for HssFault {
+    ghost output = { λ fault. Some (word_of fault) };
+
     fn fmt<W: fmt::Write>(&self, f: &mut fmt::Formatter<W>) -> fmt::Result {
         match self {
             HssFault::Length => f.write_str("length"),

@@ -1,6 +1,9 @@
+//! The rules on all levels of a signature, from the front (RFC 8554 section 6.3).
+
 ghost use Rattle.std.specs.Prelude.{◌≡◌, ◌-◌, ◌≤◌, ◌++◌, ℕ, List, None, length, OnOk, IfOk};
 ghost use Rattle.sz_lms.specs.Bits.{u32_at};
-ghost use Rattle.sz_lms.specs.Rules.{climb_rules, first_failing, head_rules, level_rules, root_rules, upper_climb_rules};
+ghost use Rattle.sz_lms.specs.Parts.{upper_climb_rules};
+ghost use Rattle.sz_lms.specs.Rules.{climb_rules, first_failing, head_rules, level_rules, root_rules};
 ghost use Rattle.sz_lms.specs.View.{broken_rule};
 
 use crate::HssFault;
@@ -15,7 +18,7 @@ const MOST_LEVELS: u32 = 8;
 /// How many levels stand below the top one, once the rules on their number hold, and the types of the top key
 /// are known.
 #[tactic(auto, unfolding(crate::specs::Rules::first_failing))]
-pub fn levels_below(public: &[u8], signature: &[u8]) -> Result<u32, HssFault>
+pub(crate) fn levels_below(public: &[u8], signature: &[u8]) -> Result<u32, HssFault>
     ensures rules { broken_rule result ≡ first_failing (head_rules public.now signature.now) }
     ensures below { IfOk result (λ below. below ≡ u32_at public.now 0 - 1) }
     ensures public { OnOk result (length public.now ≡ PUBLIC_LENGTH) }
@@ -41,7 +44,7 @@ pub fn levels_below(public: &[u8], signature: &[u8]) -> Result<u32, HssFault>
 }
 
 /// The last level, once the rules on lengths, types and leaf numbers hold of it and of all above it.
-pub fn last_level<'a>(top: &Level<'a>, below: u32) -> Result<Level<'a>, HssFault>
+pub(crate) fn last_level<'a>(top: &Level<'a>, below: u32) -> Result<Level<'a>, HssFault>
     ensures rules { broken_rule result ≡ first_failing (level_rules below top.now.key.now top.now.bytes.now) }
     ensures last { IfOk result (λ last. (message : List ℕ) → climb_rules below top.now.key.now message top.now.bytes.now
         ≡ upper_climb_rules below top.now.key.now top.now.bytes.now ++ root_rules last.key.now message last.bytes.now) }
@@ -55,7 +58,7 @@ pub fn last_level<'a>(top: &Level<'a>, below: u32) -> Result<Level<'a>, HssFault
 }
 
 /// Each level above the last has to sign the key below it.
-pub fn check_upper_levels(top: &Level<'_>, below: u32) -> Result<(), HssFault>
+pub(crate) fn check_upper_levels(top: &Level<'_>, below: u32) -> Result<(), HssFault>
     requires { first_failing (level_rules below top.now.key.now top.now.bytes.now) ≡ None }
     ensures { broken_rule result ≡ first_failing (upper_climb_rules below top.now.key.now top.now.bytes.now) }
 {

@@ -1,19 +1,22 @@
+//! One level of a signature (RFC 8554 section 5.4.2).
+
 ghost use Rattle.std.specs.Prelude.{◌≡◌, ◌+◌, ◌*◌, ◌^◌, ◌<◌, ◌≤◌, ◌==◌, ◌++◌, ℕ, List, [], ◌∷◌, length, drop, take, OnOk, IfOk};
 ghost use Rattle.sha2.specs.Hashers.{Holds256};
 ghost use Rattle.sz_lms.specs.Bits.{u32_at};
-ghost use Rattle.sz_lms.specs.Rules.{Length, first_failing, front_rules, lms_length, next_bytes, next_key, message_head, next_rules, ots_length, root_of_digest, root_rules, signature_rules, signed_digest};
-ghost use Rattle.sz_lms.specs.View.{IsLevel, broken_rule, types_of};
+ghost use Rattle.sz_lms.specs.Parts.{IsLevel, front_rules, next_rules, signed_head};
+ghost use Rattle.sz_lms.specs.Rules.{Length, first_failing, lms_length, next_bytes, next_key, ots_length, root_of_digest, root_rules, signature_rules, signed_digest};
+ghost use Rattle.sz_lms.specs.View.{broken_rule, types_of};
 
 use crate::HssFault;
-use crate::bytes::{id_at, u32_at};
-use crate::hash::leaf_node;
-use crate::ots::{key_of_digest, message_digest, message_hasher};
+use crate::bytes::{array_at, u32_at};
+use crate::hash::{leaf_node, message_hasher};
+use crate::ots::{key_of_digest, message_digest};
 use crate::path::climb;
 use crate::types::KeyTypes;
 use sha2::Sha256;
 
 /// The length of an LMS public key.
-pub const KEY_LENGTH: usize = 56;
+pub(crate) const KEY_LENGTH: usize = 56;
 
 // Where the root stands in an LMS public key.
 const ROOT_PLACE: usize = 24;
@@ -21,10 +24,10 @@ const ROOT_PLACE: usize = 24;
 /// One level of a signature: an LMS public key, and bytes that begin with an LMS signature whose lengths,
 /// types and leaf number are in order under that key.
 #[derive(Clone, Copy)]
-pub struct Level<'a> {
-    pub key: &'a [u8],
-    pub bytes: &'a [u8],
-    pub types: KeyTypes,
+pub(crate) struct Level<'a> {
+    pub(crate) key: &'a [u8],
+    pub(crate) bytes: &'a [u8],
+    pub(crate) types: KeyTypes,
     ghost in_order: { IsLevel key.now bytes.now types },
 }
 
@@ -60,7 +63,7 @@ fn check_front(key: &[u8], types: KeyTypes, bytes: &[u8]) -> Result<(), HssFault
 
 impl<'a> Level<'a> {
     /// Tests the rules on the LMS signature at the front of the bytes.
-    pub fn read(key: &'a [u8], bytes: &'a [u8]) -> Result<Level<'a>, HssFault>
+    pub(crate) fn read(key: &'a [u8], bytes: &'a [u8]) -> Result<Level<'a>, HssFault>
         requires { length key.now ≡ KEY_LENGTH }
         ensures rules { broken_rule result ≡ first_failing (front_rules key.now bytes.now) }
         ensures key { IfOk result (λ level. level.key.now ≡ key.now) }
@@ -74,7 +77,7 @@ impl<'a> Level<'a> {
     }
 
     /// The level below, whose key and bytes stand behind this level's signature.
-    pub fn next(&self) -> Result<Level<'a>, HssFault>
+    pub(crate) fn next(&self) -> Result<Level<'a>, HssFault>
         ensures rules { broken_rule result ≡ first_failing (next_rules (types_of self.now.types) self.now.bytes.now) }
         ensures key { IfOk result (λ level. level.key.now ≡ next_key (types_of self.now.types) self.now.bytes.now) }
         ensures bytes { IfOk result (λ level. level.bytes.now ≡ next_bytes (types_of self.now.types) self.now.bytes.now) }
@@ -88,7 +91,7 @@ impl<'a> Level<'a> {
     }
 
     /// Nothing may stand behind the signature.
-    pub fn check_end(&self) -> Result<(), HssFault>
+    pub(crate) fn check_end(&self) -> Result<(), HssFault>
         ensures { broken_rule result
             ≡ first_failing ((length self.now.bytes.now == lms_length (types_of self.now.types), Length) ∷ []) }
     {
@@ -100,14 +103,14 @@ impl<'a> Level<'a> {
     }
 
     /// A hasher of what is hashed before the signed message. It takes the message in pieces.
-    pub fn message_hasher(&self) -> Sha256
-        ensures { Holds256 result (message_head self.now.key.now self.now.bytes.now) }
+    pub(crate) fn message_hasher(&self) -> Sha256
+        ensures { Holds256 result (signed_head self.now.key.now self.now.bytes.now) }
     {
         message_hasher(&self.id(), self.leaf_number(), self.randomizer())
     }
 
     /// The one-time signature and the path have to lead from Q to the key's root.
-    pub fn check_digest(&self, digest: &[u8; 32]) -> Result<(), HssFault>
+    pub(crate) fn check_digest(&self, digest: &[u8; 32]) -> Result<(), HssFault>
         ensures { (message : List ℕ) → digest.now ≡ signed_digest self.now.key.now self.now.bytes.now message
             → broken_rule result ≡ first_failing (root_rules self.now.key.now message self.now.bytes.now) }
     {
@@ -119,7 +122,7 @@ impl<'a> Level<'a> {
     }
 
     /// The signature has to be one of the message.
-    pub fn check_message(&self, message: &[u8]) -> Result<(), HssFault>
+    pub(crate) fn check_message(&self, message: &[u8]) -> Result<(), HssFault>
         ensures { broken_rule result
             ≡ first_failing (root_rules self.now.key.now message.now self.now.bytes.now) }
     {
@@ -143,7 +146,7 @@ impl<'a> Level<'a> {
     fn id(&self) -> [u8; 16]
         ensures { result ≡ take 16 (drop 8 self.now.key.now) }
     {
-        id_at(self.key, 8)
+        array_at(self.key, 8)
     }
 
     // q, the number of the leaf.

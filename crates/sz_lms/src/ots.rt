@@ -1,29 +1,16 @@
+//! The key that a one-time signature leads to (RFC 8554 section 4.6).
+
 ghost use Rattle.std.specs.Prelude.{◌≡◌, ◌+◌, ◌-◌, ◌*◌, ◌^◌, ◌<◌, ◌++◌, length, take, drop};
-ghost use Rattle.std.specs.Int.{w16, w32, to_be_bytes};
-ghost use Rattle.sha2.specs.Hashers.{Holds256};
 ghost use Rattle.sz_lms.specs.Bits.{digit, values_of};
-ghost use Rattle.sz_lms.specs.Ots.{D_MESG, chain, key_of_digest, message_digest};
+ghost use Rattle.sz_lms.specs.Ots.{chain, key_of_digest, message_digest};
 ghost use Rattle.sz_lms.specs.View.{facts_of};
 
+use crate::OtsType;
+use crate::bytes::array_at;
 use crate::chain::run_chain;
 use crate::digits::{digit, signed_bytes};
-use crate::hash::tagged_hasher;
-use crate::{HssFault, OtsType};
-use sha2::{Digest, Sha256};
-
-const PUBLIC_KEY_TAG: u16 = 0x8080;
-
-const MESSAGE_TAG: u16 = 0x8181;
-
-/// A hasher of what is hashed before the message to get Q (RFC 8554 section 4.5). It takes the message in
-/// pieces.
-pub fn message_hasher(id: &[u8; 16], q: u32, randomizer: &[u8]) -> Sha256
-    ensures { Holds256 result (id.now ++ to_be_bytes w32 q ++ to_be_bytes w16 D_MESG ++ randomizer.now) }
-{
-    let mut hasher = tagged_hasher(id, q, MESSAGE_TAG);
-    hasher.update(randomizer);
-    hasher
-}
+use crate::hash::{key_hasher, message_hasher};
+use sha2::Digest;
 
 /// Q, which is signed in place of the message (RFC 8554 section 4.5).
 pub fn message_digest(id: &[u8; 16], q: u32, randomizer: &[u8], message: &[u8]) -> [u8; 32]
@@ -49,19 +36,12 @@ fn chain_end(
         result ≡ chain id.now q i from (2 ^ (facts_of kind).width - 1 - from) (take 32 (drop (32 * i) values.now)) }
 {
     let from = digit(kind, signed, i);
-    let at = 32 * usize::from(i);
-    run_chain(
-        id,
-        q,
-        i,
-        from,
-        kind.last_digit() - from,
-        &values[at..at + 32],
-    )
+    let value = array_at(values, 32 * usize::from(i));
+    run_chain(id, q, i, from, kind.last_digit(), &value)
 }
 
 /// The one-time public key that the values of a signature of Q lead to (RFC 8554 section 4.6, algorithm 4b).
-pub fn key_of_digest(
+pub(crate) fn key_of_digest(
     kind: OtsType,
     id: &[u8; 16],
     q: u32,
@@ -73,7 +53,7 @@ pub fn key_of_digest(
         ≡ key_of_digest id.now q (facts_of kind) (values_of (facts_of kind).chains values.now) digest.now }
 {
     let signed = signed_bytes(kind, digest);
-    let mut hasher = tagged_hasher(id, q, PUBLIC_KEY_TAG);
+    let mut hasher = key_hasher(id, q);
     for i in 0..kind.chains() {
         hasher.update(chain_end(kind, id, q, &signed, i, values));
     }

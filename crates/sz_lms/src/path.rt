@@ -1,3 +1,5 @@
+//! The way up a tree, from a leaf to the root (RFC 8554 section 5.4.2).
+
 ghost use Rattle.std.specs.Prelude.{◌≡◌, ◌*◌, ◌/◌, ◌%◌, ◌==◌, if◌then◌else◌, length};
 ghost use Rattle.sz_lms.specs.Bits.{values_of};
 ghost use Rattle.sz_lms.specs.Lms.{climb, inner_node};
@@ -17,7 +19,7 @@ fn parent(id: &[u8; 16], r: u32, node: &[u8; 32], sibling: &[u8]) -> [u8; 32]
 }
 
 /// The root above node `r`, with the siblings on the way up (RFC 8554 section 5.4.2, algorithm 6a).
-pub fn climb(id: &[u8; 16], r: u32, node: [u8; 32], height: u32, path: &[u8]) -> [u8; 32]
+pub(crate) fn climb(id: &[u8; 16], r: u32, node: [u8; 32], height: u32, path: &[u8]) -> [u8; 32]
     requires { length path.now ≡ 32 * height }
     ensures { result ≡ climb id.now r node (values_of height path.now) }
 {

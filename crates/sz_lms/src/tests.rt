@@ -1,10 +1,12 @@
+//! Signatures that other software made, whole, in pieces, and with each rule broken at each level.
+
 ghost use Rattle.std.specs.Prelude.{◌<◌};
 
 mod vectors;
 
+use crate::path::climb;
 use crate::{
-    HssCheck, HssFault, OtsType, climb, hss_verify, leaf_node, lms_verify, ots_candidate,
-    signed_bytes,
+    HssCheck, HssFault, OtsType, hss_verify, leaf_node, lms_verify, ots_candidate, signed_bytes,
 };
 use std::alloc::{AllocError, Global};
 use std::process::Abort;

@@ -1,3 +1,5 @@
+//! The types of one-time signatures and of trees (RFC 8554 sections 4.1 and 5.1).
+
 ghost use Rattle.std.specs.Prelude.{◌≡◌, ◌-◌, ◌/◌, ◌^◌, ◌≤◌, Some, length};
 ghost use Rattle.std.specs.Option.{option_map};
 ghost use Rattle.sz_lms.specs.Ots.{ots_type};
@@ -8,13 +10,21 @@ ghost use Rattle.sz_lms.specs.View.{facts_of, tree_height, types_of};
 use crate::bytes::u32_at;
 
 /// A type of LM-OTS one-time signatures with SHA-256 and 32-byte values (RFC 8554 section 4.1), named by the
-/// bits of a digit.
+/// bits of a digit. Its number is its code.
 #[derive(Clone, Copy, Debug, PartialEq, Eq)]
 pub enum OtsType {
-    W1,
-    W2,
-    W4,
-    W8,
+    W1 = 1,
+    W2 = 2,
+    W4 = 3,
+    W8 = 4,
+}
+
+// What the standard fixes of a type of one-time signatures.
+#[derive(Clone, Copy)]
+struct OtsRow {
+    width: usize,
+    chains: u16,
+    shift: u32,
 }
 
 impl OtsType {
@@ -35,11 +45,26 @@ impl OtsType {
     pub fn code(self) -> u32
         ensures { ots_type result ≡ Some (facts_of self) }
     {
-        match self {
-            OtsType::W1 => 1,
-            OtsType::W2 => 2,
-            OtsType::W4 => 3,
-            OtsType::W8 => 4,
+        self as u32
+    }
+
+    // The type's row of the standard's table.
+    #[inline]
+    fn row(self) -> OtsRow
+        ensures width { result.width ≡ (facts_of self).width }
+        ensures chains { result.chains ≡ (facts_of self).chains }
+        ensures shift { result.shift ≡ (facts_of self).shift }
+    {
+        let (width, chains, shift) = match self {
+            OtsType::W1 => (1, 265, 7),
+            OtsType::W2 => (2, 133, 6),
+            OtsType::W4 => (4, 67, 4),
+            OtsType::W8 => (8, 34, 0),
+        };
+        OtsRow {
+            width,
+            chains,
+            shift,
         }
     }
 
@@ -47,71 +72,47 @@ impl OtsType {
     pub fn width(self) -> usize
         ensures { result ≡ (facts_of self).width }
     {
-        match self {
-            OtsType::W1 => 1,
-            OtsType::W2 => 2,
-            OtsType::W4 => 4,
-            OtsType::W8 => 8,
-        }
+        self.row().width
     }
 
     /// The greatest digit.
     pub fn last_digit(self) -> u8
         ensures { result ≡ 2 ^ (facts_of self).width - 1 }
     {
-        match self {
-            OtsType::W1 => 1,
-            OtsType::W2 => 3,
-            OtsType::W4 => 15,
-            OtsType::W8 => 255,
-        }
+        u8::MAX >> (8 - self.width())
     }
 
     /// How many digits a digest has.
     pub fn digest_digits(self) -> u16
         ensures { result ≡ 256 / (facts_of self).width }
     {
-        match self {
-            OtsType::W1 => 256,
-            OtsType::W2 => 128,
-            OtsType::W4 => 64,
-            OtsType::W8 => 32,
-        }
+        256 / self.width() as u16
     }
 
     /// The number of chains.
     pub fn chains(self) -> u16
         ensures { result ≡ (facts_of self).chains }
     {
-        match self {
-            OtsType::W1 => 265,
-            OtsType::W2 => 133,
-            OtsType::W4 => 67,
-            OtsType::W8 => 34,
-        }
+        self.row().chains
     }
 
     /// By how many bits the checksum is shifted.
     pub fn shift(self) -> u32
         ensures { result ≡ (facts_of self).shift }
     {
-        match self {
-            OtsType::W1 => 7,
-            OtsType::W2 => 6,
-            OtsType::W4 => 4,
-            OtsType::W8 => 0,
-        }
+        self.row().shift
     }
 }
 
-/// A type of LMS trees with SHA-256 and 32-byte nodes (RFC 8554 section 5.1), named by the tree's height.
+/// A type of LMS trees with SHA-256 and 32-byte nodes (RFC 8554 section 5.1), named by the tree's height. Its
+/// number is its code.
 #[derive(Clone, Copy, Debug, PartialEq, Eq)]
 pub enum LmsType {
-    H5,
-    H10,
-    H15,
-    H20,
-    H25,
+    H5 = 5,
+    H10 = 6,
+    H15 = 7,
+    H20 = 8,
+    H25 = 9,
 }
 
 impl LmsType {
@@ -133,13 +134,7 @@ impl LmsType {
     pub fn code(self) -> u32
         ensures { height_of result ≡ Some (tree_height self) }
     {
-        match self {
-            LmsType::H5 => 5,
-            LmsType::H10 => 6,
-            LmsType::H15 => 7,
-            LmsType::H20 => 8,
-            LmsType::H25 => 9,
-        }
+        self as u32
     }
 
     /// The tree's height: it has 2 to the height many leaves.
@@ -165,14 +160,14 @@ impl LmsType {
 
 /// The two types that an LMS public key names.
 #[derive(Clone, Copy, Debug, PartialEq, Eq)]
-pub struct KeyTypes {
-    pub tree: LmsType,
-    pub one_time: OtsType,
+pub(crate) struct KeyTypes {
+    pub(crate) tree: LmsType,
+    pub(crate) one_time: OtsType,
 }
 
 impl KeyTypes {
     /// The types of a key, or `None` exactly where one of them is unknown.
-    pub fn read(key: &[u8]) -> Option<KeyTypes>
+    pub(crate) fn read(key: &[u8]) -> Option<KeyTypes>
         requires { 8 ≤ length key.now }
         ensures { option_map types_of result ≡ tree_type key.now }
     {
@@ -182,7 +177,7 @@ impl KeyTypes {
     }
 
     /// The length of a one-time signature: its type, C and one value a chain.
-    pub fn one_time_length(self) -> usize
+    pub(crate) fn one_time_length(self) -> usize
         ensures { result ≡ ots_length (types_of self).ots }
     {
         36 + 32 * usize::from(self.one_time.chains())
@@ -190,7 +185,7 @@ impl KeyTypes {
 
     /// The length of an LMS signature: q, a one-time signature, the tree's type and one value a level of
     /// the tree.
-    pub fn signature_length(self) -> usize
+    pub(crate) fn signature_length(self) -> usize
         ensures { result ≡ lms_length (types_of self) }
     {
         8 + self.one_time_length() + 32 * self.tree.height() as usize

@@ -1,3 +1,5 @@
+//! The verdict on a whole signature, of several levels, of one tree and of one leaf.
+
 ghost use Rattle.std.specs.Prelude.{◌≡◌, ◌↔◌, IsOk, Some, IfOk, length};
 ghost use Rattle.std.specs.Option.{option_map};
 ghost use Rattle.sz_lms.specs.Bits.{u32_at};

@@ -1,5 +1,6 @@
 use Rattle.std.proofs.Common.{◌≡◌, ◌-◌, None}
-use Rattle.sz_lms.specs.Rules.{first_failing, level_rules, upper_climb_rules}
+use Rattle.sz_lms.specs.Parts.{upper_climb_rules}
+use Rattle.sz_lms.specs.Rules.{first_failing, level_rules}
 use Rattle.sz_lms.proofs.hss.check_upper_levels.Given as goal
 
 -- the levels from this one on are in order, and what is left of the ways up is what they say of these

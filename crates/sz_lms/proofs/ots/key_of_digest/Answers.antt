@@ -9,7 +9,7 @@ use Rattle.sz_lms.proofs.ots.key_of_digest.Goals as goal
 pub loop-i-init : goal.loop-i-init
 loop-i-init c =
     let none : (facts_of c.args.kind).chains - 0 ≡ (facts_of c.args.kind).chains = omega arith in
-    ([], rw append-nil c.tagged_hasher-hasher.ensures, rw none refl)
+    ([], rw append-nil c.key_hasher-hasher.ensures, rw none refl)
 
 pub loop-i-preserved : goal.loop-i-preserved
 loop-i-preserved c =

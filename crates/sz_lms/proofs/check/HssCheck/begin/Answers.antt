@@ -1,7 +1,8 @@
 use Rattle.std.proofs.Common.{◌∙◌, ap, sym}
 use Rattle.std.proofs.lemmas.List.{append-nil}
 use Rattle.std.proofs.lemmas.Result.{err_from_is_err_and}
-use Rattle.sz_lms.specs.Rules.{first_failing, message_head, root_rules, rules_before_message}
+use Rattle.sz_lms.specs.Parts.{rules_before_message, signed_head}
+use Rattle.sz_lms.specs.Rules.{first_failing, root_rules}
 use Rattle.sz_lms.proofs.Levels.{before-fails}
 use Rattle.sz_lms.proofs.RuleLists.{front-passes}
 use Rattle.sz_lms.proofs.check.HssCheck.begin.Goals as goal
@@ -19,5 +20,5 @@ returns-clause-ok c =
           ap first_failing (c.in_ok-last.ensures.left whole)
           ∙ front-passes (rules_before_message c.args.public.now c.args.signature.now) (root_rules last.key.now whole last.bytes.now)
           (sym c.in_ok-last.ensures.first);
-      holds = rw (append-nil (message_head last.key.now last.bytes.now)) c.message_hasher-hasher.ensures;
+      holds = rw (append-nil (signed_head last.key.now last.bytes.now)) c.message_hasher-hasher.ensures;
     }
