@@ -3,7 +3,7 @@
 use Rattle.std.specs.Prelude.{ℕ, zero, suc, ◌+◌, ◌-◌, ◌*◌, ◌/◌, ◌%◌, ◌^◌, ◌==◌, ◌||◌, if◌then◌else◌, Bool, IsTrue, List, ◌∷◌, map, take, unwrap_or}
 use Rattle.std.specs.List.{range_with_len}
 use Rattle.sz_lms.specs.Bits.{digit}
-use Rattle.sz_lms.specs.Ots.{OtsType, ots_type, hashed, message_digest, signed_bytes, chain, key_of_ends, ots_signature}
+use Rattle.sz_lms.specs.Ots.{OtsType, LMOTS_SHA256_N32_W8, ots_type, hashed, message_digest, signed_bytes, chain, key_of_ends, ots_signature}
 use Rattle.sz_lms.specs.Lms.{leaf_node, inner_node, lms_public, lms_signature}
 
 -- what a tree is made from: SEED, I, the height, and the bits of a digit (w)
@@ -35,7 +35,7 @@ ots_code width = if width == 1 then 1 else if width == 2 then 2 else if width ==
 
 -- the LM-OTS type with this code
 abbrev pub ots_of : ℕ → OtsType
-ots_of width = unwrap_or (ots_type (ots_code width)) (record { width = 8; chains = 34; shift = 0 })
+ots_of width = unwrap_or (ots_type (ots_code width)) LMOTS_SHA256_N32_W8
 
 -- ---- what the secret gives below leaf q
 

@@ -1,3 +1,5 @@
+//! The nodes of a tree, computed once and kept.
+
 ghost use Rattle.std.specs.Prelude.{◌≡◌, ℕ, [], ◌+◌, ◌-◌, ◌*◌, ◌^◌, ◌<◌, IsTrue, IfOk, OnOk};
 ghost use Rattle.sz_lms.specs.Lms.{inner_node};
 ghost use Rattle.sz_lms_tree.specs.Kept.{IsKept, KeepsFrom, place_of};
@@ -12,7 +14,7 @@ use sz_base::OutOfMemory;
 use sz_lms::inner_node;
 
 /// The place of node `r` among the kept nodes, which stand from the last leaf down to the root.
-pub fn node_place(secret: &Secret, r: u32) -> usize
+pub(crate) fn node_place(secret: &Secret, r: u32) -> usize
     requires height { IsTrue (is_height secret.now.height) }
     requires exists { r < 2 * 2 ^ secret.now.height }
     ensures { result ≡ place_of (tree_secret secret.now) r }
@@ -66,7 +68,7 @@ fn push_inner(nodes: &mut Vec<[u8; 32]>, secret: &Secret) -> Result<(), OutOfMem
 }
 
 /// All nodes of the secret's tree, from the last leaf down to the root.
-pub fn kept_nodes(alloc: Global, secret: &Secret) -> Result<Vec<[u8; 32]>, OutOfMemory>
+pub(crate) fn kept_nodes(alloc: Global, secret: &Secret) -> Result<Vec<[u8; 32]>, OutOfMemory>
     requires height { IsTrue (is_height secret.now.height) }
     requires width { IsTrue (is_width secret.now.width) }
     ensures { IfOk result (λ nodes. IsKept (tree_secret secret.now) nodes.items) }

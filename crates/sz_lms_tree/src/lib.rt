@@ -2,6 +2,7 @@
 //! secret: their leaves, roots and children, and the signatures of their leaves.
 #![tactic(auto)]
 
+mod gate;
 mod kept;
 mod nodes;
 mod secrets;
@@ -10,6 +11,7 @@ mod signing;
 mod tests;
 mod trees;
 
+pub use gate::{Gate, OpenGate, Part};
 pub use nodes::{leaf, root};
 pub use secrets::{Secret, child};
 pub use trees::Tree;

@@ -1,3 +1,5 @@
+//! Leaves and roots, computed from the secret (RFC 8554 sections 4.3 and 5.3).
+
 ghost use Rattle.std.specs.Prelude.{◌≡◌, ◌+◌, ◌-◌, ◌^◌, ◌<◌, IsTrue};
 ghost use Rattle.sz_lms_tree.specs.Places.{IsNodeAt};
 ghost use Rattle.sz_lms_tree.specs.Tree.{is_height, is_width, one_time_key, leaf_of, node_of, root_of};
@@ -5,10 +7,7 @@ ghost use Rattle.sz_lms_tree.specs.View.{tree_secret};
 
 use crate::secrets::{Secret, chain_value};
 use sha2::Digest;
-use sz_lms::{inner_node, leaf_node, tagged_hasher};
-
-// D_PBLC of RFC 8554 section 7.1.
-const PUBLIC_KEY_TAG: u16 = 0x8080;
+use sz_lms::{inner_node, key_hasher, leaf_node};
 
 // The one-time public key of leaf `q` (RFC 8554 section 4.3).
 fn one_time_key(secret: &Secret, q: u32) -> [u8; 32]
@@ -17,14 +16,15 @@ fn one_time_key(secret: &Secret, q: u32) -> [u8; 32]
 {
     let kind = secret.one_time_type();
     let steps = kind.last_digit();
-    let mut hasher = tagged_hasher(&secret.id, q, PUBLIC_KEY_TAG);
+    let mut hasher = key_hasher(&secret.id, q);
     for i in 0..kind.chains() {
         hasher.update(chain_value(secret, q, i, steps));
     }
     hasher.finalize()
 }
 
-/// The value of leaf `q` of the secret's tree (RFC 8554 section 5.3). Takes no memory.
+/// The value of leaf `q` of the secret's tree, 32 bytes; leaves count from 0 (RFC 8554 section 5.3). Takes no
+/// memory.
 #[tactic(auto, unfolding(crate::specs::Tree::leaf_of))]
 pub fn leaf(secret: &Secret, q: u32) -> [u8; 32]
     requires height { IsTrue (is_height secret.now.height) }
@@ -55,8 +55,8 @@ fn node(secret: &Secret, below: u8, r: u32) -> [u8; 32]
     inner_node(&secret.id, r, &left, &right)
 }
 
-/// The root of the secret's tree, node 1 (RFC 8554 section 5.3). Takes no memory: on the way down, one node
-/// waits on each level.
+/// The root of the secret's tree, node 1, 32 bytes (RFC 8554 section 5.3). All leaves are computed for it. Takes
+/// no memory: on the way down, one node waits on each level.
 pub fn root(secret: &Secret) -> [u8; 32]
     requires height { IsTrue (is_height secret.now.height) }
     requires width { IsTrue (is_width secret.now.width) }

@@ -1,3 +1,5 @@
+//! What a tree is made from, and all that is made from it below a leaf.
+
 ghost use Rattle.std.specs.Prelude.{◌≡◌, ◌∷◌, ◌-◌, ◌^◌, take, IsTrue};
 ghost use Rattle.sz_lms.specs.View.{facts_of, tree_height};
 ghost use Rattle.sz_lms_tree.specs.Tree.{is_height, is_width, ots_of, ots_code, tree_code, secret_value, randomizer_of, child_of, chain_value};
@@ -8,7 +10,7 @@ use sz_lms::{LmsType, OtsType, hashed, run_chain};
 /// What a whole tree is made from. It has no `Debug`, so that it is never printed.
 #[derive(Clone, Copy, PartialEq, Eq)]
 pub struct Secret {
-    /// SEED of RFC 8554 appendix A.
+    /// SEED of RFC 8554 appendix A, 32 random bytes.
     pub seed: [u8; 32],
     /// The tree's identifier I.
     pub id: [u8; 16],
@@ -86,7 +88,7 @@ fn secret_value(secret: &Secret, q: u32, index: u16) -> [u8; 32]
 }
 
 /// The randomizer C of what leaf `q` signs.
-pub fn randomizer(secret: &Secret, q: u32) -> [u8; 32]
+pub(crate) fn randomizer(secret: &Secret, q: u32) -> [u8; 32]
     ensures { result ≡ randomizer_of (tree_secret secret.now) q }
 {
     secret_value(secret, q, RANDOMIZER)
@@ -94,13 +96,13 @@ pub fn randomizer(secret: &Secret, q: u32) -> [u8; 32]
 
 /// Chain `i` of leaf `q` after so many steps from its start.
 #[tactic(auto, unfolding(crate::specs::Tree::chain_value))]
-pub fn chain_value(secret: &Secret, q: u32, i: u16, steps: u8) -> [u8; 32]
+pub(crate) fn chain_value(secret: &Secret, q: u32, i: u16, steps: u8) -> [u8; 32]
     ensures { result ≡ chain_value (tree_secret secret.now) q i steps }
 {
     run_chain(&secret.id, q, i, 0, steps, &secret_value(secret, q, i))
 }
 
-/// The secret of the tree that hangs below leaf `q`. The height and the width are taken as they are: a tree is
+/// The secret of the tree that hangs below leaf `q`, which counts from 0. The height and the width are taken as they are: a tree is
 /// made of the answer only where they are among those of `Secret`. Takes no memory.
 pub fn child(secret: &Secret, q: u32, height: u8, width: u8) -> Secret
     ensures { tree_secret result ≡ child_of (tree_secret secret.now) q height width }

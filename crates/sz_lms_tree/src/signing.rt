@@ -1,3 +1,5 @@
+//! What a leaf signs (RFC 8554 sections 4.5 and 5.4).
+
 ghost use Rattle.std.specs.Prelude.{◌≡◌, ◌+◌, ◌*◌, ◌++◌, ◌<◌, ◌^◌, IsTrue, IfOk, OnOk};
 ghost use Rattle.std.specs.Int.{w32, to_be_bytes};
 ghost use Rattle.std.specs.List.{concat};
@@ -104,7 +106,7 @@ fn append_one_time(
 }
 
 /// What leaf `q` signs the message with (RFC 8554 section 5.4), by the tree's kept nodes.
-pub fn leaf_signature(
+pub(crate) fn leaf_signature(
     alloc: Global,
     secret: &Secret,
     nodes: &[[u8; 32]],

@@ -1,3 +1,5 @@
+//! A tree with its nodes kept, which signs.
+
 ghost use Rattle.std.specs.Prelude.{◌≡◌, ◌^◌, ◌<◌, IsTrue, IfOk};
 ghost use Rattle.sz_lms.specs.Lms.{LmsOk};
 ghost use Rattle.sz_lms_tree.specs.Tree.{is_height, is_width, public_of, root_of, signature_of};
@@ -30,7 +32,8 @@ impl Model for Tree {
 }
 
 impl Tree {
-    /// The secret's tree, with all nodes computed and kept. Takes 32 bytes of memory for each node.
+    /// The secret's tree, with all nodes computed and kept. Takes 32 bytes of memory for each node: 64 for each
+    /// leaf, less 32.
     pub fn build(alloc: Global, secret: &Secret) -> Result<Tree, OutOfMemory>
         requires height { IsTrue (is_height secret.now.height) }
         requires width { IsTrue (is_width secret.now.width) }
@@ -43,14 +46,14 @@ impl Tree {
         })
     }
 
-    /// The tree's root, node 1.
+    /// The tree's root, node 1, 32 bytes, as it was kept.
     pub fn root(&self) -> [u8; 32]
         ensures { result ≡ root_of self.now }
     {
         self.nodes[node_place(&self.secret, 1)]
     }
 
-    /// What leaf `q` signs the message with (RFC 8554 section 5.4): the same bytes for the same secret, `q` and
+    /// What leaf `q`, which counts from 0, signs the message with (RFC 8554 section 5.4): the same bytes for the same secret, `q` and
     /// message. Each leaf is to sign one message only; the tree does not keep count.
     pub fn sign_leaf(&self, alloc: Global, q: u32, message: &[u8]) -> Result<Bytes, OutOfMemory>
         requires { q < 2 ^ self.now.height }
