@@ -4,12 +4,11 @@ use Rattle.std.proofs.lemmas.List.{take_more}
 use Rattle.std.proofs.lemmas.List.Sums.{sum_by_push}
 use Rattle.std.proofs.lemmas.Int.{to_z_pos}
 use Rattle.jiff_core.proofs.SignedLemmas.{signed_arith, unsigned_abs-parts, one_part}
-use Rattle.jiff_core.proofs.CalendarLemmas.{days_in_month_bounds}
 use Rattle.jiff_core.proofs.DateLemmas.{epoch_day_range, epoch_day_injective}
 use Rattle.jiff_core.specs.declared.civil.date.Date.{Date}
-use Rattle.jiff_core.specs.Calendar.{IsDate as IsJiffDate, IsCivilDate, IsEpochDay, days_in_year, days_in_month, days_of_years as jiff_years, days_of_months, day_count, days_from_civil}
+use Rattle.jiff_core.specs.Calendar.{IsEpochDay, days_in_year, days_in_month, days_of_years as jiff_years, days_of_months, day_count, days_from_civil}
 use Rattle.jiff_core.specs.Date.{epoch_day, IsYmd}
-use Rattle.sz_calendar.specs.Gregorian.{is_leap, month_lengths, year_length, first_year, start_year, days_of_years, days_before, days_before_year, days_before_month, unix_day, IsDate}
+use Rattle.sz_calendar.specs.Gregorian.{is_leap, month_lengths, year_length, first_year, start_year, days_of_years, days_before, days_before_year, unix_day, IsDate}
 
 -- the days of a year, as the sum over its months and as a choice
 choice_of_length : (leap : Bool) → cond leap 366 365 ≡ sum (31 ∷ cond leap 29 28 ∷ 31 ∷ 30 ∷ 31 ∷ 30 ∷ 31 ∷ 31 ∷ 30 ∷ 31 ∷ 30 ∷ 31 ∷ [])

@@ -4,7 +4,7 @@ use Rattle.jiff_core.proofs.SignedLemmas.{signed_arith}
 use Rattle.jiff_core.specs.Calendar.{IsEpochDay}
 use Rattle.jiff_core.specs.declared.civil.date.Date.{Date}
 use Rattle.jiff_core.specs.Date.{epoch_day}
-use Rattle.sz_calendar.specs.Gregorian.{IsDate, unix_day}
+use Rattle.sz_calendar.specs.Gregorian.{unix_day}
 use Rattle.sz_calendar.specs.CivilTime.{CivilTime, IsReal, IsDated, IsTimeAt, second_of_day, unix_seconds}
 use Rattle.sz_calendar.proofs.Days.{IsDate_from_jiff, epoch_day-is, unix_day-range, unix_day-injective}
 

@@ -1,8 +1,10 @@
 -- An item at a place of the bytes.
 use Rattle.std.proofs.Common.{◌≡◌, ℕ, ◌+◌, ◌-◌, ◌≤◌, List, ◌++◌, length, get_or, take, drop, Some, None, refl, sym, ap, subst, ◌∙◌, arith, length-take, length-drop}
 use Rattle.std.specs.Prelude.{slice_range}
-use Rattle.std.proofs.lemmas.List.{take-append-drop, take-take, drop-take, drop-drop, get_or-take, length-take-le}
+use Rattle.std.proofs.lemmas.List.{take-append-drop, take_at, take-take, drop-take, drop-drop, get_or-take, length-take-le}
 use Rattle.sz_der.specs.Der.{StandsAt}
+use Rattle.sz_der.specs.Items.{BeginsWith}
+use Rattle.sz_der.specs.Nested.{Extends}
 use Rattle.sz_der.specs.declared.fault.DerKind.{DerKind}
 use Rattle.sz_der.specs.Fault.{fault_of, header_size, content_size}
 use Rattle.sz_der.proofs.Octets.{IsBytes, IsBytes-drop}
@@ -25,6 +27,22 @@ pub Front_from_StandsAt : (bytes : List ℕ) (place tag : ℕ) (content whole : 
 Front_from_StandsAt bytes place tag content whole stands =
     let fronts : List ℕ → Type 0 = λ (rest : List ℕ). Front rest tag content whole in
     subst fronts (begins bytes place whole stands.there) (Front_from_Der tag content whole (drop (length whole) (drop place bytes)) stands.is_item)
+
+-- what stands at a place is what the bytes from there on begin with
+pub BeginsWith_from_StandsAt : (bytes : List ℕ) (place tag : ℕ) (content whole : List ℕ) →
+    StandsAt bytes place tag content whole →
+    BeginsWith (drop place bytes) tag content whole (drop (length whole) (drop place bytes))
+BeginsWith_from_StandsAt bytes place tag content whole stands =
+    record { is_item = stands.is_item; joined = sym (begins bytes place whole stands.there) }
+
+pub StandsAt_from_BeginsWith : (bytes : List ℕ) (place tag : ℕ) (content whole rest : List ℕ) →
+    BeginsWith (drop place bytes) tag content whole rest → StandsAt bytes place tag content whole
+StandsAt_from_BeginsWith bytes place tag content whole rest front =
+    let long : place + length whole - place ≡ length whole = omega arith in
+    record {
+      is_item = front.is_item;
+      there = rw (long, front.joined, take_at whole rest (length whole) refl) refl;
+    }
 
 -- What the reader answers, from the rest of the bytes and the extent of the item at their front.
 abbrev pub whole_of : List ℕ → ℕ → ℕ → List ℕ
@@ -53,7 +71,7 @@ module _ (bytes : List ℕ) (place : ℕ) (rest : List ℕ) (header size : ℕ) 
         there = rw rest-is (there bytes place (header + size) within_there);
       }
 
-  pub content_there : slice_range bytes (place + length (whole_of rest header size) - length (content_of rest header size)) (place + length (whole_of rest header size)) ≡ content_of rest header size
+  content_there : slice_range bytes (place + length (whole_of rest header size) - length (content_of rest header size)) (place + length (whole_of rest header size)) ≡ content_of rest header size
   content_there =
       let long : length (whole_of rest header size) ≡ header + size = length-take-le (header + size) rest within in
       let short : length (content_of rest header size) ≡ size = ap length (content_of-is rest header size within) ∙ omega (arith, length-take size (drop header rest), length-drop header rest) in
@@ -62,6 +80,16 @@ module _ (bytes : List ℕ) (place : ℕ) (rest : List ℕ) (header size : ℕ) 
       let part : ℕ → List ℕ = λ start. slice_range bytes start (place + length (whole_of rest header size)) in
       let same : take size (drop (place + header) bytes) ≡ take size (drop header rest) = rw (rest-is, drop-drop header place bytes) refl in
       ap part from ∙ rw count same ∙ sym (content_of-is rest header size within)
+
+  pub extends : Extends bytes place (content_of rest header size) (whole_of rest header size) (place + length (whole_of rest header size))
+  extends =
+      let long : length (whole_of rest header size) ≡ header + size = length-take-le (header + size) rest within in
+      let short : length (content_of rest header size) ≡ size = ap length (content_of-is rest header size within) ∙ omega (arith, length-take size (drop header rest), length-drop header rest) in
+      let left : length rest ≡ length bytes - place = rw rest-is (length-drop place bytes) in
+      record {
+        ends = refl;
+        holds = record { fits = omega arith; within = omega arith; there = content_there };
+      }
 
   pub only : (tag : ℕ) (content whole : List ℕ) → StandsAt bytes place tag content whole → (get_or (whole_of rest header size) 0 0 ≡ tag) × (content_of rest header size ≡ content) × (whole_of rest header size ≡ whole)
   only tag content whole stands =

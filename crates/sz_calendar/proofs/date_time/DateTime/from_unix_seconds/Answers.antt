@@ -1,7 +1,6 @@
-use Rattle.std.proofs.Common.{◌≡◌, ◌∙◌, refl, arith, FitsSigned, w64, ℤ, pos, ◌+ℤ◌, ◌*ℤ◌}
+use Rattle.std.proofs.Common.{◌≡◌, ◌∙◌, refl, arith, FitsSigned, w64, pos, ◌+ℤ◌, ◌*ℤ◌}
 use Rattle.std.proofs.lemmas.Int.{to_z-of_z}
 use Rattle.jiff_core.specs.Calendar.{IsEpochDay}
-use Rattle.jiff_core.proofs.SignedLemmas.{signed_arith}
 use Rattle.sz_calendar.proofs.Seconds.{IsDated-day}
 use Rattle.sz_calendar.proofs.date_time.DateTime.from_unix_seconds.Goals as goal
 
