@@ -4,6 +4,7 @@ use Rattle.std.proofs.lemmas.List.{take_more}
 use Rattle.std.proofs.lemmas.List.Sums.{sum_by_push}
 use Rattle.std.proofs.lemmas.Int.{to_z_pos}
 use Rattle.jiff_core.proofs.SignedLemmas.{signed_arith, unsigned_abs-parts, one_part}
+use Rattle.jiff_core.proofs.CalendarLemmas.{days_in_month_bounds}
 use Rattle.jiff_core.proofs.DateLemmas.{epoch_day_range, epoch_day_injective}
 use Rattle.jiff_core.specs.declared.civil.date.Date.{Date}
 use Rattle.jiff_core.specs.Calendar.{IsEpochDay, days_in_year, days_in_month, days_of_years as jiff_years, days_of_months, day_count, days_from_civil}
@@ -66,6 +67,12 @@ pub days_from_civil-is : (year : ℤ) (month day : ℕ) → 1 ≤ month → mont
 unfolding days_from_civil
 days_from_civil-is year month day low high some =
     rw (day_count-is year month day low high some, day_count-is (pos 1970) 1 1 (omega arith) (omega arith) (omega arith)) (omega (arith, signed_arith))
+
+-- no month has more days
+pub day-bound : (year : ℤ) (month day : ℕ) → IsDate year month day → day ≤ 31
+day-bound year month day is =
+    let last : day ≤ days_in_month year month = rw (days_in_month-is year month is.from_january is.to_december) is.to_last_day in
+    omega (arith, days_in_month_bounds year month)
 
 -- ---- dates of `jiff`
 

@@ -29,7 +29,7 @@ same_second : (day other : ℤ) (second other_second : ℕ) → second < 86400 �
 same_second day other second other_second below other_below same = omega (arith, signed_arith)
 
 -- a time goes by its parts
-same_parts : (time : CivilTime) (year : ℤ) (month day hour minute second : ℕ) → time.year ≡ year → time.month ≡ month → time.day ≡ day → time.hour ≡ hour → time.minute ≡ minute → time.second ≡ second → time ≡ record { year = year; month = month; day = day; hour = hour; minute = minute; second = second }
+pub same_parts : (time : CivilTime) (year : ℤ) (month day hour minute second : ℕ) → time.year ≡ year → time.month ≡ month → time.day ≡ day → time.hour ≡ hour → time.minute ≡ minute → time.second ≡ second → time ≡ record { year = year; month = month; day = day; hour = hour; minute = minute; second = second }
 same_parts time year month day hour minute second years months days hours minutes seconds =
     rw (← years, ← months, ← days, ← hours, ← minutes, ← seconds) refl
 

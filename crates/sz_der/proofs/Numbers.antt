@@ -1,5 +1,5 @@
 -- Numbers that octets write.
-use Rattle.std.proofs.Common.{◌≡◌, true, false, ltb, ℕ, zero, suc, ◌+◌, ◌-◌, ◌*◌, ◌^◌, ◌<◌, ◌≤◌, ◌⊎◌, inl, inr, List, [], ◌∷◌, ◌++◌, length, get_or, take, refl, ap, ◌∙◌, arith, length-append, add-one}
+use Rattle.std.proofs.Common.{◌≡◌, true, false, ltb, ℕ, zero, suc, ◌+◌, ◌-◌, ◌*◌, ◌^◌, ◌<◌, ◌≤◌, ◌⊎◌, inl, inr, List, [], ◌∷◌, ◌++◌, length, get_or, take, refl, sym, ap, ◌∙◌, arith, length-append, add-one}
 use Rattle.std.proofs.Math.Bool.{or-true}
 use Rattle.std.proofs.Math.Nat.{pow-suc, mul-le-mul_right, pow-le-pow_right}
 use Rattle.std.proofs.lemmas.Bool.{lt-ltb, le-ltb, cases_order}
@@ -39,7 +39,7 @@ number_of-injective (first ∷ octets) (second ∷ other) fits other_fits long s
     let bound = number_of-bound octets fits.1 in
     let other_bound = number_of-bound other other_fits.1 in
     let here : number_of other < 256 ^ length octets = omega arith in
-    let sums : first * 256 ^ length octets + number_of octets ≡ second * 256 ^ length octets + number_of other = rw power same in
+    let sums : first * 256 ^ length octets + number_of octets ≡ second * 256 ^ length octets + number_of other = same ∙ ap (λ n. second * n + number_of other) (sym power) in
     elim (cases_order first second) [
       | inl leads ↦
           let rest : number_of octets ≡ number_of other = rest_same first second (256 ^ length octets) (number_of octets) (number_of other) leads sums in

@@ -42,11 +42,25 @@ fn value_u32(octets: &[u8]) -> Option<u32>
     ensures some { IfSome result (λ n. integer_of octets.now ≡ pos n) }
     ensures none { IfNone result ((n : ℕ) → n < 2 ^ 32 → ¬ (integer_of octets.now ≡ pos n)) }
 {
+    if octets[0] >= 0x80 {
+        return None;
+    }
+    let magnitude = magnitude_of(octets);
+    if magnitude.len() > 4 {
+        return None;
+    }
+    Some(number(magnitude) as u32)
+}
+
+/// The octets without a leading zero, which write the same number where it is not below 0.
+fn magnitude_of(octets: &[u8]) -> &[u8]
+    requires { IsInteger octets.now }
+    ensures number { number_of result.now ≡ number_of octets.now }
+    ensures lead { 0 < length result.now → 0 < slice_index result.now 0 }
+{
     match octets {
-        [0x80..=0xFF, ..] => None,
-        [0, magnitude @ ..] if magnitude.len() <= 4 => Some(number(magnitude) as u32),
-        magnitude if magnitude.len() <= 4 => Some(number(magnitude) as u32),
-        _ => None,
+        [0, magnitude @ ..] => magnitude,
+        _ => octets,
     }
 }
 

@@ -1,6 +1,6 @@
 //! One item of the input, at a place.
 
-ghost use Rattle.std.specs.Prelude.{◌≡◌, ◌≢◌, ◌+◌, ◌-◌, ◌%◌, ◌<◌, ◌≤◌, ℕ, List, false, length, drop, slice_index, IfOk, IfErr, Some, None, IsOkAnd};
+ghost use Rattle.std.specs.Prelude.{◌≡◌, ◌≢◌, ◌+◌, ◌-◌, ◌%◌, ◌^◌, ◌<◌, ◌≤◌, ℕ, List, false, length, drop, slice_index, IfOk, IfErr, Some, None, IsOkAnd};
 ghost use Rattle.sz_der.specs.Der.{StandsAt, number_of};
 ghost use Rattle.sz_der.specs.Fault.{fault_of, fault_at, header_size, content_size, counted, size_octets, is_padded};
 ghost use Rattle.sz_der.specs.Nested.{Extends};
@@ -146,7 +146,8 @@ fn is_padded(octets: &[u8]) -> bool
 /// The number that the octets write, the most significant first.
 pub(crate) fn number(octets: &[u8]) -> usize
     requires { length octets.now ≤ 4 }
-    ensures { result ≡ number_of octets.now }
+    ensures value { result ≡ number_of octets.now }
+    ensures bound { result < 256 ^ length octets.now }
 {
     let mut number = 0;
     for octet in octets {

@@ -80,9 +80,14 @@ fn are_bits(unused: u8, octets: &[u8]) -> bool
 fn first_bits(octets: &[u8]) -> u16
     ensures { HasNamedBits octets.now result }
 {
-    let first = octets.first().copied().unwrap_or(0);
-    let second = octets.get(1).copied().unwrap_or(0);
-    u16::from_be_bytes([first, second]).reverse_bits()
+    u16::from_be_bytes([octet_at(octets, 0), octet_at(octets, 1)]).reverse_bits()
+}
+
+/// The octet at the place, or 0 where there is none.
+fn octet_at(octets: &[u8], place: usize) -> u8
+    ensures { result ≡ slice_index octets.now place }
+{
+    if place < octets.len() { octets[place] } else { 0 }
 }
 
 /// The value of a BOOLEAN: one octet, 00 or FF (X.690 sections 8.2 and 11.1).
