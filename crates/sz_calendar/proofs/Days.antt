@@ -36,10 +36,12 @@ days_in_month-is year (suc (suc (suc (suc (suc (suc (suc (suc (suc (suc (suc (su
 days_in_month-is year (suc (suc (suc (suc (suc (suc (suc (suc (suc (suc (suc (suc (suc month))))))))))))) low high = absurd (omega arith)
 
 -- the days of the first months, one month more
-pub sum_of_months-more : (year : ℤ) (n : ℕ) → n < 12 → sum (take (suc n) (month_lengths year)) ≡ sum (take n (month_lengths year)) + get_or (month_lengths year) n 0
+pub sum_of_months-more : (year : ℤ) (n : ℕ) → n < 12 →
+    sum (take (suc n) (month_lengths year)) ≡ sum (take n (month_lengths year)) + get_or (month_lengths year) n 0
 sum_of_months-more year n below =
     let within : n < length (month_lengths year) = omega arith in
-    let next : take (suc n) (month_lengths year) ≡ take n (month_lengths year) ++ get_or (month_lengths year) n 0 ∷ [] = rw add-one at (take_more (month_lengths year) n 0 within) in
+    let next : take (suc n) (month_lengths year) ≡ take n (month_lengths year) ++ get_or (month_lengths year) n 0 ∷ [] =
+        rw add-one at (take_more (month_lengths year) n 0 within) in
     ap sum next ∙ sum_by_push (λ x. x) (take n (month_lengths year)) (get_or (month_lengths year) n 0)
 
 days_of_months-is : (year : ℤ) (n : ℕ) → n < 12 → days_of_months year n ≡ sum (take n (month_lengths year))
@@ -91,7 +93,8 @@ pub epoch_day-is : (date : Date) → epoch_day date ≡ unix_day date.year date.
 epoch_day-is date = days_from_civil-is date.year date.month date.day date.month_in.0 date.month_in.1 date.day_in.0
 
 -- the date that `jiff` makes of numbers, with the casts that they went through
-pub date_read : (year : ℤ) (month day : ℕ) (date : Date) → month ≤ 12 → day ≤ 31 → IsYmd year (to_z w8 month) (to_z w8 day) date → IsDate year month day × (epoch_day date ≡ unix_day year month day)
+pub date_read : (year : ℤ) (month day : ℕ) (date : Date) → month ≤ 12 → day ≤ 31 → IsYmd year (to_z w8 month) (to_z w8 day) date →
+    IsDate year month day × (epoch_day date ≡ unix_day year month day)
 date_read year month day date months days is =
     let parts : IsYmd year (pos month) (pos day) date = rw (to_z_pos w8 month (omega arith), to_z_pos w8 day (omega arith)) at is in
     let month-is : date.month ≡ month = cc in
@@ -124,12 +127,15 @@ pub record SameDate (year_a year_b : ℤ) (month_a month_b day_a day_b : ℕ) : 
   pub day : day_a ≡ day_b
 
 -- two dates with one number are one
-pub unix_day-injective : (year other_year : ℤ) (month other_month day other_day : ℕ) → IsDate year month day → IsDate other_year other_month other_day → unix_day year month day ≡ unix_day other_year other_month other_day → SameDate year other_year month other_month day other_day
+pub unix_day-injective : (year other_year : ℤ) (month other_month day other_day : ℕ) → IsDate year month day →
+    IsDate other_year other_month other_day → unix_day year month day ≡ unix_day other_year other_month other_day →
+    SameDate year other_year month other_month day other_day
 unfolding jiff_date
 unix_day-injective year other_year month other_month day other_day is other same =
     let a = jiff_date year month day is in
     let b = jiff_date other_year other_month other_day other in
-    let parts = epoch_day_injective (jiff_date year month day is) (jiff_date other_year other_month other_day other) (epoch_day-is (jiff_date year month day is) ∙ same ∙ sym (epoch_day-is (jiff_date other_year other_month other_day other))) in
+    let parts = epoch_day_injective (jiff_date year month day is) (jiff_date other_year other_month other_day other)
+        (epoch_day-is (jiff_date year month day is) ∙ same ∙ sym (epoch_day-is (jiff_date other_year other_month other_day other))) in
     record { year = parts.0; month = parts.1; day = parts.2 }
 
 -- ---- one after another
@@ -140,7 +146,8 @@ year_at year low = omega (arith, signed_arith, unsigned_abs-parts (year -ℤ sta
 
 place_of_next : (year : ℤ) → start_year ≤ℤ year → unsigned_abs (year +ℤ pos 1 -ℤ start_year) ≡ suc (unsigned_abs (year -ℤ start_year))
 place_of_next year low =
-    omega (arith, signed_arith, unsigned_abs-parts (year -ℤ start_year), one_part (year -ℤ start_year), unsigned_abs-parts (year +ℤ pos 1 -ℤ start_year), one_part (year +ℤ pos 1 -ℤ start_year))
+    omega (arith, signed_arith, unsigned_abs-parts (year -ℤ start_year), one_part (year -ℤ start_year),
+        unsigned_abs-parts (year +ℤ pos 1 -ℤ start_year), one_part (year +ℤ pos 1 -ℤ start_year))
 
 days_before_year-next : (year : ℤ) → start_year ≤ℤ year → days_before_year (year +ℤ pos 1) ≡ days_before_year year + year_length year
 unfolding days_of_years
@@ -152,7 +159,8 @@ unix_day-next_year year low =
     let start : start_year ≤ℤ year = omega (arith, signed_arith) in
     rw (days_before_year-next year start) (omega (arith, signed_arith))
 
-pub unix_day-next_month : (year : ℤ) (month : ℕ) → 1 ≤ month → month < 12 → unix_day year (month + 1) 1 ≡ unix_day year month 1 +ℤ pos (get_or (month_lengths year) (month - 1) 0)
+pub unix_day-next_month : (year : ℤ) (month : ℕ) → 1 ≤ month → month < 12 →
+    unix_day year (month + 1) 1 ≡ unix_day year month 1 +ℤ pos (get_or (month_lengths year) (month - 1) 0)
 unix_day-next_month year month low high =
     let place : month + 1 - 1 ≡ suc (month - 1) = omega arith in
     rw (place, sum_of_months-more year (month - 1) (omega arith)) (omega (arith, signed_arith))

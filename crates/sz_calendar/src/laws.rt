@@ -1,7 +1,7 @@
 //! Laws of the calendar. Each is the contract of a function that does nothing.
 
-ghost use Rattle.std.specs.Prelude.{◌≡◌, ◌+◌, ◌-◌, ◌<◌, ◌≤◌, ℕ, ℤ, pos, ◌+ℤ◌, ◌-ℤ◌, ◌≤ℤ◌, slice_index};
-ghost use Rattle.sz_calendar.specs.Gregorian.{IsDate, first_year, last_year, month_lengths, unix_day, year_length};
+ghost use Rattle.std.specs.Prelude.{◌≡◌, ◌+◌, ◌-◌, ◌<◌, ◌≤◌, ℕ, ℤ, pos, ◌+ℤ◌, ◌≤ℤ◌, slice_index};
+ghost use Rattle.sz_calendar.specs.Gregorian.{first_year, last_year, month_lengths, unix_day, year_length};
 ghost use Rattle.sz_calendar.specs.CivilTime.{CivilTime, IsDated, IsReal, IsTimeAt, unix_seconds};
 
 /// A second has one date and time of day, and a date with a time of day has a second from the first to the

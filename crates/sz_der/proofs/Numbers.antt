@@ -1,5 +1,5 @@
 -- Numbers that octets write.
-use Rattle.std.proofs.Common.{◌≡◌, true, false, ltb, ℕ, zero, suc, ◌+◌, ◌-◌, ◌*◌, ◌^◌, ◌<◌, ◌≤◌, ◌⊎◌, inl, inr, List, [], ◌∷◌, ◌++◌, length, get_or, take, refl, sym, ap, ◌∙◌, arith, length-append, add-one}
+use Rattle.std.proofs.Common.{◌≡◌, true, false, ltb, ℕ, zero, suc, ◌+◌, ◌-◌, ◌*◌, ◌^◌, ◌<◌, ◌≤◌, inl, inr, List, [], ◌∷◌, ◌++◌, length, get_or, take, refl, sym, ap, ◌∙◌, arith, length-append, add-one}
 use Rattle.std.proofs.Math.Bool.{or-true}
 use Rattle.std.proofs.Math.Nat.{pow-suc, mul-le-mul_right, pow-le-pow_right}
 use Rattle.std.proofs.lemmas.Bool.{lt-ltb, le-ltb, cases_order}
@@ -29,7 +29,8 @@ rest_same first second power rest other leads sums =
     omega arith
 
 -- as many octets that write one number are the same
-pub number_of-injective : (octets other : List ℕ) → AreOctets octets → AreOctets other → length octets ≡ length other → number_of octets ≡ number_of other → octets ≡ other
+pub number_of-injective : (octets other : List ℕ) → AreOctets octets → AreOctets other → length octets ≡ length other →
+    number_of octets ≡ number_of other → octets ≡ other
 number_of-injective [] [] fits other_fits long same = refl
 number_of-injective [] (second ∷ other) fits other_fits long same = absurd (omega arith)
 number_of-injective (first ∷ octets) [] fits other_fits long same = absurd (omega arith)
@@ -39,7 +40,8 @@ number_of-injective (first ∷ octets) (second ∷ other) fits other_fits long s
     let bound = number_of-bound octets fits.1 in
     let other_bound = number_of-bound other other_fits.1 in
     let here : number_of other < 256 ^ length octets = omega arith in
-    let sums : first * 256 ^ length octets + number_of octets ≡ second * 256 ^ length octets + number_of other = same ∙ ap (λ n. second * n + number_of other) (sym power) in
+    let sums : first * 256 ^ length octets + number_of octets ≡ second * 256 ^ length octets + number_of other = same
+    ∙ ap (λ n. second * n + number_of other) (sym power) in
     elim (cases_order first second) [
       | inl leads ↦
           let rest : number_of octets ≡ number_of other = rest_same first second (256 ^ length octets) (number_of octets) (number_of other) leads sums in
@@ -89,4 +91,7 @@ number_of-needed (first ∷ second ∷ octets) lead one =
 
 pub is_padded-not : (octets : List ℕ) → 0 < get_or octets 0 0 → (length octets ≡ 1 → 128 ≤ get_or octets 0 0) → is_padded octets ≡ false
 is_padded-not octets lead one =
-    rw (le-ltb (number_of octets) 128 (number_of-needed octets lead one), le-ltb (number_of octets) (256 ^ (length octets - 1)) (number_of-lead octets lead)) refl
+    rw (
+      le-ltb (number_of octets) 128 (number_of-needed octets lead one),
+      le-ltb (number_of octets) (256 ^ (length octets - 1)) (number_of-lead octets lead),
+    ) refl

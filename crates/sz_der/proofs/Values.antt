@@ -1,11 +1,12 @@
 -- INTEGER values.
-use Rattle.std.proofs.Common.{◌≡◌, ℕ, suc, ◌+◌, ◌-◌, ◌*◌, ◌^◌, ◌<◌, ◌≤◌, List, [], ◌∷◌, length, get_or, drop, refl, sym, ap, ◌∙◌, arith, ℤ, pos, ◌-ℤ◌}
-use Rattle.std.proofs.Math.Nat.{pow-le-pow_right}
-use Rattle.std.proofs.lemmas.Bool.{lt-ltb, le-ltb}
+use Rattle.std.proofs.Common.{◌≡◌, ℕ, zero, suc, inl, inr, ◌-◌, ◌*◌, ◌^◌, ◌<◌, ◌≤◌, List, [], ◌∷◌, length, get_or, drop, refl, sym, ◌∙◌, arith, pos, ◌-ℤ◌}
+use Rattle.std.proofs.Math.Nat.{pow-suc, mul-le-mul_right, pow-le-pow_right}
+use Rattle.std.proofs.lemmas.Bool.{lt-ltb, le-ltb, cases_lt, cases_order}
 use Rattle.std.proofs.lemmas.Int.{ints}
+use Rattle.std.proofs.lemmas.Nat.{mul-add-lt}
 use Rattle.sz_der.specs.Der.{number_of, AreOctets}
-use Rattle.sz_der.specs.Integer.{integer_of}
-use Rattle.sz_der.proofs.Numbers.{number_of-bound, number_of-lead}
+use Rattle.sz_der.specs.Integer.{integer_of, IsIntegerOf}
+use Rattle.sz_der.proofs.Numbers.{number_of-bound, number_of-injective, number_of-lead}
 
 -- a leading zero adds nothing
 pub number_of-drop : (octets : List ℕ) → get_or octets 0 0 ≡ 0 → number_of (drop 1 octets) ≡ number_of octets
@@ -41,3 +42,58 @@ pub one_number : (octets : List ℕ) (n : ℕ) → get_or octets 0 0 < 128 → i
 one_number octets n low same =
     let is : pos (number_of octets) ≡ pos n = sym (integer_of-positive octets low) ∙ same in
     omega (arith, ints)
+
+-- ---- one content
+
+-- a first bit that is clear bounds the number
+number_of-below : (octets : List ℕ) → AreOctets octets → 0 < length octets → get_or octets 0 0 < 128 → number_of octets < 128 * 256 ^ (length octets - 1)
+number_of-below [] fits some low = absurd (omega arith)
+number_of-below (first ∷ octets) fits some low =
+    let rest : suc (length octets) - 1 ≡ length octets = omega arith in
+    rw rest (omega (arith, mul-add-lt first (256 ^ length octets) (number_of octets) 128 low (number_of-bound octets fits.1)))
+
+-- and so do first nine bits that are not all clear
+number_of-from : (octets : List ℕ) → 1 < length octets → (get_or octets 0 0 ≡ 0 → 128 ≤ get_or octets 1 0) → 128 * 256 ^ (length octets - 2) ≤ number_of octets
+number_of-from [] some lead = absurd (omega arith)
+number_of-from (only ∷ []) some lead = absurd (omega arith)
+number_of-from (zero ∷ second ∷ octets) some lead =
+    let rest : suc (suc (length octets)) - 2 ≡ length octets = omega arith in
+    rw rest (omega (arith, mul-le-mul_right (256 ^ length octets) (lead refl)))
+number_of-from (suc first ∷ second ∷ octets) some lead =
+    let rest : suc (suc (length octets)) - 2 ≡ length octets = omega arith in
+    let one : 1 ≤ suc first = omega arith in
+    rw (rest, pow-suc) (omega (arith, mul-le-mul_right (256 ^ suc (length octets)) one, pow-suc 256 (length octets)))
+
+-- a shorter one writes less
+shorter_less : (octets other : List ℕ) → AreOctets octets → 0 < length octets → get_or octets 0 0 < 128 →
+    (get_or other 0 0 ≡ 0 → 128 ≤ get_or other 1 0) → length octets < length other → number_of octets < number_of other
+shorter_less octets other fits some low lead less =
+    let grows : 256 ^ (length octets - 1) ≤ 256 ^ (length other - 2) =
+    pow-le-pow_right {n = 256} (omega arith) {i = length octets - 1} {j = length other - 2} (omega arith) in
+    omega (arith, number_of-below octets fits some low, number_of-from other (omega arith) lead)
+
+-- the first bit of a number from 0 on is clear
+first_bit : (n : ℕ) (content : List ℕ) → IsIntegerOf (pos n) content → get_or content 0 0 < 128
+first_bit n content is =
+    elim (cases_lt (get_or content 0 0) 128) [
+      | inl low ↦ low
+      | inr high ↦ absurd (integer_of-negative content is.octets high n is.writes)
+    ]
+
+pub one_content : (n : ℕ) (content other : List ℕ) → IsIntegerOf (pos n) content → IsIntegerOf (pos n) other → content ≡ other
+one_content n content other a b =
+    let low = first_bit n content a in
+    let other_low = first_bit n other b in
+    let same : number_of content ≡ number_of other = one_number content n low a.writes ∙ sym (one_number other n other_low b.writes) in
+    elim (cases_order (length content) (length other)) [
+      | inl long ↦ number_of-injective content other a.octets b.octets long same
+      | inr (inl less) ↦ absurd
+          (omega (arith, same, shorter_less content other a.octets a.minimal.some low (b.minimal.not_all_clear (omega (arith, a.minimal.some))) less))
+      | inr (inr more) ↦ absurd
+          (omega (
+            arith,
+            same,
+            shorter_less other content b.octets b.minimal.some other_low (a.minimal.not_all_clear (omega (arith, b.minimal.some)))
+                more,
+          ))
+    ]

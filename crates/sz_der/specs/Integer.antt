@@ -1,5 +1,5 @@
 -- INTEGER values and their contents (X.690 section 8.3).
-use Rattle.std.specs.Prelude.{◌≡◌, ℕ, ◌^◌, ◌<◌, ◌≤◌, nat_lt, if◌then◌else◌, List, [], length, slice_index, ℤ, pos, ◌-ℤ◌}
+use Rattle.std.specs.Prelude.{◌≡◌, ℕ, ◌^◌, ◌<◌, ◌≤◌, nat_lt, if◌then◌else◌, List, length, slice_index, ℤ, pos, ◌-ℤ◌}
 use Rattle.sz_der.specs.Der.{AreOctets, number_of}
 
 -- An INTEGER has an octet, and where it has more, its first nine bits are not all alike (8.3.1, 8.3.2).

@@ -1,6 +1,6 @@
 //! INTEGER: its octets, and its value where it is a number of 32 bits (X.690 section 8.3).
 
-ghost use Rattle.std.specs.Prelude.{◌≡◌, ◌↔◌, ◌^◌, ◌<◌, ◌≤◌, ℕ, pos, List, length, slice_index, IsOk, IfOk, IfErr, IsTrue, MatchOption, IfNone, IfSome};
+ghost use Rattle.std.specs.Prelude.{◌≡◌, ◌↔◌, ◌^◌, ◌<◌, ℕ, pos, length, slice_index, IsOk, IfOk, IfErr, IsTrue, IfNone, IfSome};
 ghost use Rattle.sz_der.specs.Content.{IsContentFault};
 ghost use Rattle.sz_der.specs.Der.{number_of};
 ghost use Rattle.sz_der.specs.Integer.{IsInteger, integer_of};

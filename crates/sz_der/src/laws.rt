@@ -1,8 +1,9 @@
 //! Laws of the definitions that the contracts cite. Each is the contract of a function that does nothing.
 
-ghost use Rattle.std.specs.Prelude.{◌≡◌, ◌↔◌, ◌+◌, ◌-◌, ◌≤◌, ℕ, List, [], ◌++◌, length, take, None};
+ghost use Rattle.std.specs.Prelude.{◌≡◌, ◌↔◌, ◌+◌, ◌-◌, ℕ, List, [], ◌++◌, length, pos, take, None};
 ghost use Rattle.sz_der.specs.Der.{Der, StandsAt, AreOctets};
 ghost use Rattle.sz_der.specs.Fault.{fault_at, fault_of};
+ghost use Rattle.sz_der.specs.Integer.{IsIntegerOf};
 ghost use Rattle.sz_der.specs.Items.{AppendsItems, AreItems, BeginsWith, ReadAs};
 ghost use Rattle.sz_der.specs.Nested.{EndsAt};
 
@@ -18,6 +19,12 @@ pub fn items_are_apart()
         → Der tag content whole → Der other_tag other_content (whole ++ more) → more ≡ [] }
 {}
 
+/// A number from 0 on has one content as an INTEGER.
+pub fn integers_have_one_content()
+    ensures { (n : ℕ) (content other : List ℕ) → IsIntegerOf (pos n) content → IsIntegerOf (pos n) other
+        → content ≡ other }
+{}
+
 /// At a place of octets there is no fault exactly where an item stands.
 pub fn fault_or_item()
     ensures place { (bytes : List ℕ) (place : ℕ) → AreOctets bytes
@@ -31,8 +38,10 @@ pub fn fault_or_item()
 /// What is written, item after item, reads as these items and no others, and whatever reads as a list of
 /// items is what is written for it: their strings, joined.
 pub fn written_is_read()
-    ensures read { (bytes : List ℕ) (items : List (ℕ × List ℕ)) → AppendsItems [] bytes items → ReadAs bytes 0 items }
-    ensures written { (bytes : List ℕ) (items : List (ℕ × List ℕ)) → ReadAs bytes 0 items → AppendsItems [] bytes items }
+    ensures read { (bytes : List ℕ) (items : List (ℕ × List ℕ)) → AppendsItems [] bytes items
+        → ReadAs bytes 0 items }
+    ensures written { (bytes : List ℕ) (items : List (ℕ × List ℕ)) → ReadAs bytes 0 items
+        → AppendsItems [] bytes items }
     ensures joined { (bytes : List ℕ) (items : List (ℕ × List ℕ)) → ReadAs bytes 0 items ↔ AreItems bytes items }
     ensures no_others { (bytes : List ℕ) (items others : List (ℕ × List ℕ))
         → ReadAs bytes 0 items → ReadAs bytes 0 others → items ≡ others }

@@ -22,7 +22,9 @@ mod writer;
 pub use fault::{DerFault, DerKind, OutOfMemory};
 pub use integers::{integer, integer_u32};
 pub use item::{Item, next};
-pub use laws::{contents_are_parts, fault_or_item, items_are_apart, written_is_read};
+pub use laws::{
+    contents_are_parts, fault_or_item, integers_have_one_content, items_are_apart, written_is_read,
+};
 pub use reader::DerReader;
 pub use times::time;
 pub use typed::{bit_string, boolean, content_of, named_bits, octet_string, oid};

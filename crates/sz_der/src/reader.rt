@@ -84,7 +84,8 @@ impl<'a> DerReader<'a> {
     /// Takes the next item where one is left. A fault leaves the reader as it was.
     pub fn next_item(&mut self) -> Result<Option<Item<'a>>, DerFault>
         ensures some { IfOk result (λ found. IfSome found (λ item.
-            Takes self.old.end self.old.left.now self.new.left.now item.tag item.content.now item.whole.now item.after)) }
+            Takes self.old.end self.old.left.now self.new.left.now
+            item.tag item.content.now item.whole.now item.after)) }
         ensures none { IfOk result (λ found. IfNone found
             ((self.old.left.now ≡ []) × (self.new.left.now ≡ self.old.left.now))) }
         ensures fault { IfErr result (λ fault. IsFrontFault self.old.end self.old.left.now fault
@@ -102,7 +103,8 @@ impl<'a> DerReader<'a> {
     /// Takes the next item where it has this tag. A fault leaves the reader as it was.
     pub fn next_tagged(&mut self, tag: u8) -> Result<Option<Item<'a>>, DerFault>
         ensures some { IfOk result (λ found. IfSome found (λ item. (item.tag ≡ tag)
-            × Takes self.old.end self.old.left.now self.new.left.now item.tag item.content.now item.whole.now item.after)) }
+            × Takes self.old.end self.old.left.now self.new.left.now
+            item.tag item.content.now item.whole.now item.after)) }
         ensures none { IfOk result (λ found. IfNone found
             (BeginsOtherwise tag self.old.left.now × (self.new.left.now ≡ self.old.left.now))) }
         ensures fault { IfErr result (λ fault. IsFrontFault self.old.end self.old.left.now fault

@@ -1,6 +1,6 @@
 //! Readers of types: each answers exactly where the item has the type's tag and a content of its form.
 
-ghost use Rattle.std.specs.Prelude.{◌≡◌, ◌↔◌, ◌-◌, ◌<◌, ◌≤◌, List, ℕ, ◌∷◌, [], length, slice_index, IsOk, IfOk, IsOkAnd, Bool, IfErr, IsTrue, Ok};
+ghost use Rattle.std.specs.Prelude.{◌≡◌, ◌↔◌, ◌-◌, ◌<◌, List, ℕ, ◌∷◌, slice_index, IsOk, IfOk, IsOkAnd, Bool, IfErr, IsTrue, Ok};
 ghost use Rattle.sz_der.specs.Content.{IsBits, IsBoolean, IsBitString, IsContentFault, HasNamedBits, HoldsBits};
 
 use crate::tag::{BIT_STRING, BOOLEAN, OBJECT_IDENTIFIER, OCTET_STRING};
@@ -61,7 +61,9 @@ pub fn named_bits(item: &Item<'_>) -> Result<u16, DerFault>
     ensures fault { IfErr result (IsContentFault item.now.after item.now.whole.now) }
 {
     match item.content {
-        [unused, octets @ ..] if item.tag == BIT_STRING && are_bits(*unused, octets) => Ok(first_bits(octets)),
+        [unused, octets @ ..] if item.tag == BIT_STRING && are_bits(*unused, octets) => Ok(
+            first_bits(octets),
+        ),
         _ => Err(content_fault(item)),
     }
 }
@@ -87,7 +89,11 @@ fn first_bits(octets: &[u8]) -> u16
 fn octet_at(octets: &[u8], place: usize) -> u8
     ensures { result ≡ slice_index octets.now place }
 {
-    if place < octets.len() { octets[place] } else { 0 }
+    if place < octets.len() {
+        octets[place]
+    } else {
+        0
+    }
 }
 
 /// The value of a BOOLEAN: one octet, 00 or FF (X.690 sections 8.2 and 11.1).

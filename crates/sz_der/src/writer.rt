@@ -1,7 +1,6 @@
 //! A writer of whole items, one after another.
 
-ghost use Rattle.std.specs.Prelude.{◌≡◌, ◌≢◌, ◌+◌, ◌%◌, ◌^◌, ◌≤◌, ℕ, List, [], length, pos, vec_capacity, vec_len, IsOkAnd, OnOk, OnErr, IsErr};
-ghost use Rattle.sz_der.specs.Integer.{IsIntegerOf};
+ghost use Rattle.std.specs.Prelude.{◌≡◌, ◌≢◌, ◌+◌, ◌%◌, ◌^◌, ◌≤◌, ℕ, List, [], length, vec_capacity, vec_len, IsOkAnd, OnOk, OnErr, IsErr};
 ghost use Rattle.sz_der.specs.Items.{AppendsInteger, AppendsItem, AppendsSize};
 
 use crate::OutOfMemory;

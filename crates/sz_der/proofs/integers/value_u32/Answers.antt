@@ -1,7 +1,6 @@
-use Rattle.std.proofs.Common.{◌≡◌, ◌∙◌, sym, arith, pos}
-use Rattle.std.proofs.lemmas.Int.{ints}
+use Rattle.std.proofs.Common.{arith}
 use Rattle.sz_der.proofs.Octets.{AreOctets_from_places}
-use Rattle.sz_der.proofs.Values.{integer_of-positive, integer_of-negative, number_of-long, number-short, one_number}
+use Rattle.sz_der.proofs.Values.{integer_of-negative, number_of-long, number-short, one_number}
 use Rattle.sz_der.proofs.integers.value_u32.Goals as goal
 
 pub returns-then-octets-ge128-clause-none : goal.returns-then-octets-ge128-clause-none

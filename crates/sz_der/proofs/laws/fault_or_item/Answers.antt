@@ -7,6 +7,7 @@ returns-clause-place c = λ bytes place fits.
     (item_from_none bytes place fits, λ item. none_from_item bytes place item.0 item.1 item.2 item.3)
 
 pub returns-clause-front : goal.returns-clause-front
-returns-clause-front c = λ bytes fits.
-    (front_from_none bytes fits,
-    λ item. none_from_item bytes 0 item.0 item.1 item.2 (StandsAt_from_BeginsWith bytes 0 item.0 item.1 item.2 item.3 item.4))
+returns-clause-front c = λ bytes fits. (
+  front_from_none bytes fits,
+  λ item. none_from_item bytes 0 item.0 item.1 item.2 (StandsAt_from_BeginsWith bytes 0 item.0 item.1 item.2 item.3 item.4),
+)
