@@ -52,7 +52,17 @@ Clear_from_none bytes e =
 pub none_from_Clear : (bytes : List ℕ) → Clear bytes → fault_of bytes ≡ None
 unfolding fault_of
 none_from_Clear bytes clear =
-    rw (ne_eqb (length bytes) 0 (omega arith), ne_eqb (get_or bytes 0 0 % 32) 31 clear.tag, ne_eqb (length bytes) 1 (omega arith), ne_eqb (get_or bytes 1 0) 128 clear.definite, ne_eqb (get_or bytes 1 0) 255 clear.not_reserved, le-ltb (length bytes) (header_size bytes) clear.header, clear.minimal, le-ltb 4 (counted bytes) clear.few, le-ltb (length bytes) (header_size bytes + content_size bytes) clear.whole) refl
+    rw (
+      ne_eqb (length bytes) 0 (omega arith),
+      ne_eqb (get_or bytes 0 0 % 32) 31 clear.tag,
+      ne_eqb (length bytes) 1 (omega arith),
+      ne_eqb (get_or bytes 1 0) 128 clear.definite,
+      ne_eqb (get_or bytes 1 0) 255 clear.not_reserved,
+      le-ltb (length bytes) (header_size bytes) clear.header,
+      clear.minimal,
+      le-ltb 4 (counted bytes) clear.few,
+      le-ltb (length bytes) (header_size bytes + content_size bytes) clear.whole,
+    ) refl
 
 -- ---- what stands there is an item
 
@@ -75,7 +85,8 @@ and_right : (a b : Bool) → (a && b) ≡ false → a ≡ true → b ≡ false
 and_right true b e is = e
 and_right false b e is = absurd cc
 
-IsLength_from_Clear : (tag first : ℕ) (more : List ℕ) (n size : ℕ) → AreOctets more → Clear (tag ∷ first ∷ more) → n ≡ counted (tag ∷ first ∷ more) → size ≡ content_size (tag ∷ first ∷ more) → IsLength (first ∷ take n more) size
+IsLength_from_Clear : (tag first : ℕ) (more : List ℕ) (n size : ℕ) → AreOctets more → Clear (tag ∷ first ∷ more) → n ≡ counted (tag ∷ first ∷ more) →
+    size ≡ content_size (tag ∷ first ∷ more) → IsLength (first ∷ take n more) size
 IsLength_from_Clear tag first more n size fits clear n-is size-is =
     elim (cases_lt first 128) [
       | inl short ↦
@@ -84,7 +95,8 @@ IsLength_from_Clear tag first more n size fits clear n-is size-is =
           inl (rw none refl, sym is, omega arith)
       | inr long ↦
           let is : size ≡ number_of (take n more) = size-is ∙ rw (le-ltb first 128 long, ← n-is) refl in
-          let exact : is_padded (take n more) ≡ false = rw n-is (and_right (leb 128 first) (is_padded (size_octets (tag ∷ first ∷ more))) clear.minimal (le-leb 128 first long)) in
+          let exact : is_padded (take n more) ≡ false =
+          rw n-is (and_right (leb 128 first) (is_padded (size_octets (tag ∷ first ∷ more))) clear.minimal (le-leb 128 first long)) in
           let parts = or_parts (ltb (number_of (take n more)) 128) (ltb (number_of (take n more)) (256 ^ (length (take n more) - 1))) exact in
           let within : n ≤ length more = omega (arith, clear.header) in
           let long_enough : length (take n more) ≡ n = omega (arith, length-take n more) in
@@ -98,7 +110,8 @@ IsLength_from_Clear tag first more n size fits clear n-is size-is =
           })
     ]
 
-pub Der_from_Clear : (bytes : List ℕ) → IsBytes bytes → Clear bytes → Der (get_or bytes 0 0) (take (content_size bytes) (drop (header_size bytes) bytes)) (take (header_size bytes + content_size bytes) bytes)
+pub Der_from_Clear : (bytes : List ℕ) → IsBytes bytes → Clear bytes →
+    Der (get_or bytes 0 0) (take (content_size bytes) (drop (header_size bytes) bytes)) (take (header_size bytes + content_size bytes) bytes)
 Der_from_Clear [] fits clear = absurd (omega (arith, clear.two))
 Der_from_Clear (tag ∷ []) fits clear = absurd (omega (arith, clear.two))
 Der_from_Clear (tag ∷ first ∷ more) fits clear =
@@ -106,7 +119,8 @@ Der_from_Clear (tag ∷ first ∷ more) fits clear =
     let n = counted (tag ∷ first ∷ more) in
     let size = content_size (tag ∷ first ∷ more) in
     let octets : AreOctets more = AreOctets_from_places more (λ i. fits (suc (suc i))) in
-    let long : length (take size (drop (2 + n) (tag ∷ first ∷ more))) ≡ size = omega (arith, length-take size (drop (2 + n) (tag ∷ first ∷ more)), length-drop (2 + n) (tag ∷ first ∷ more), clear.whole) in
+    let long : length (take size (drop (2 + n) (tag ∷ first ∷ more))) ≡ size =
+    omega (arith, length-take size (drop (2 + n) (tag ∷ first ∷ more)), length-drop (2 + n) (tag ∷ first ∷ more), clear.whole) in
     let is_size : ℕ → Type 0 = λ k. IsLength (first ∷ take n more) k in
     let rest : List ℕ → List ℕ = λ after. tag ∷ ((first ∷ take n more) ++ take size after) in
     record {
@@ -125,20 +139,28 @@ pub record Front (bytes : List ℕ) (tag : ℕ) (content whole : List ℕ) : Typ
   pub content_is : take (content_size bytes) (drop (header_size bytes) bytes) ≡ content
   pub whole_is : take (header_size bytes + content_size bytes) bytes ≡ whole
 
-take-content : (tag first : ℕ) (octets content after : List ℕ) (n size : ℕ) → n ≡ length octets → size ≡ length content → take size (drop (2 + n) (tag ∷ first ∷ (octets ++ (content ++ after)))) ≡ content
+take-content : (tag first : ℕ) (octets content after : List ℕ) (n size : ℕ) → n ≡ length octets → size ≡ length content →
+    take size (drop (2 + n) (tag ∷ first ∷ (octets ++ (content ++ after)))) ≡ content
 take-content tag first octets content after n size n-is size-is =
     rw (drop-header tag first (octets ++ (content ++ after)) n, drop_at octets (content ++ after) n (sym n-is), take_at content after size (sym size-is)) refl
 
-take-whole : (tag first : ℕ) (octets content after : List ℕ) (n size : ℕ) → n ≡ length octets → size ≡ length content → take (2 + n + size) (tag ∷ first ∷ (octets ++ (content ++ after))) ≡ tag ∷ ((first ∷ octets) ++ content)
+take-whole : (tag first : ℕ) (octets content after : List ℕ) (n size : ℕ) → n ≡ length octets → size ≡ length content →
+    take (2 + n + size) (tag ∷ first ∷ (octets ++ (content ++ after))) ≡ tag ∷ ((first ∷ octets) ++ content)
 take-whole tag first octets content after n size n-is size-is =
-    rw (take-header tag first (octets ++ (content ++ after)) n size, take_at octets (content ++ after) n (sym n-is), drop_at octets (content ++ after) n (sym n-is), take_at content after size (sym size-is)) refl
+    rw (
+      take-header tag first (octets ++ (content ++ after)) n size,
+      take_at octets (content ++ after) n (sym n-is),
+      drop_at octets (content ++ after) n (sym n-is),
+      take_at content after size (sym size-is),
+    ) refl
 
 -- what is not padded
 is_padded-exact : (octets : List ℕ) (size : ℕ) → number_of octets ≡ size → 256 ^ (length octets - 1) ≤ size → 128 ≤ size → is_padded octets ≡ false
 is_padded-exact octets size writes fewer long =
     rw (le-ltb (number_of octets) 128 (omega arith), le-ltb (number_of octets) (256 ^ (length octets - 1)) (omega arith)) refl
 
-Front-short : (tag first : ℕ) (content after : List ℕ) → tag % 32 ≢ 31 → first ≡ length content → length content < 128 → Front (tag ∷ first ∷ (content ++ after)) tag content (tag ∷ first ∷ content)
+Front-short : (tag first : ℕ) (content after : List ℕ) → tag % 32 ≢ 31 → first ≡ length content → length content < 128 →
+    Front (tag ∷ first ∷ (content ++ after)) tag content (tag ∷ first ∷ content)
 Front-short tag first content after high size-is short =
     let bytes : List ℕ = tag ∷ first ∷ (content ++ after) in
     let n-is : counted bytes ≡ 0 = omega arith in
@@ -165,7 +187,8 @@ long_some : (first size : ℕ) (octets : List ℕ) → IsLongForm first octets s
 long_some first size [] long = absurd (omega (arith, long.writes, long.not_short))
 long_some first size (octet ∷ octets) long = omega arith
 
-Front-long : (tag first : ℕ) (octets content after : List ℕ) → tag % 32 ≢ 31 → IsLongForm first octets (length content) → Front (tag ∷ first ∷ (octets ++ (content ++ after))) tag content (tag ∷ ((first ∷ octets) ++ content))
+Front-long : (tag first : ℕ) (octets content after : List ℕ) → tag % 32 ≢ 31 → IsLongForm first octets (length content) →
+    Front (tag ∷ first ∷ (octets ++ (content ++ after))) tag content (tag ∷ ((first ∷ octets) ++ content))
 Front-long tag first octets content after high long =
     let bytes : List ℕ = tag ∷ first ∷ (octets ++ (content ++ after)) in
     let n-is : counted bytes ≡ length octets = omega (arith, long.counts) in
@@ -181,7 +204,11 @@ Front-long tag first octets content after high long =
         definite = λ e. omega (arith, long.counts);
         not_reserved = λ e. omega (arith, long.counts, long.at_most_four);
         header = omega arith;
-        minimal = rw (octets-are, is_padded-exact octets (length content) long.writes long.no_fewer_do long.not_short, le-leb 128 first (omega (arith, long.counts))) refl;
+        minimal = rw (
+          octets-are,
+          is_padded-exact octets (length content) long.writes long.no_fewer_do long.not_short,
+          le-leb 128 first (omega (arith, long.counts)),
+        ) refl;
         few = omega (arith, long.at_most_four);
         whole = omega arith;
       };
@@ -190,7 +217,8 @@ Front-long tag first octets content after high long =
       whole_is = take-whole tag first octets content after (counted bytes) (content_size bytes) n-is content_size-is;
     }
 
-Front_from_parts : (tag : ℕ) (size content after : List ℕ) → tag % 32 ≢ 31 → IsLength size (length content) → Front ((tag ∷ (size ++ content)) ++ after) tag content (tag ∷ (size ++ content))
+Front_from_parts : (tag : ℕ) (size content after : List ℕ) → tag % 32 ≢ 31 → IsLength size (length content) →
+    Front ((tag ∷ (size ++ content)) ++ after) tag content (tag ∷ (size ++ content))
 Front_from_parts tag [] content after high is_size = absurd is_size
 Front_from_parts tag (first ∷ octets) content after high (inl short) =
     let fronts : List ℕ → Type 0 = λ more. Front (tag ∷ first ∷ ((more ++ content) ++ after)) tag content (tag ∷ ((first ∷ more) ++ content)) in

@@ -1,6 +1,10 @@
-pub mod Days
+pub mod Apart
+pub mod Bits
 pub mod Front
 pub mod Lists
+pub mod Moments
 pub mod Numbers
 pub mod Octets
+pub mod Parts
 pub mod Places
+pub mod Values

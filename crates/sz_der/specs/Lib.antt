@@ -1,7 +1,9 @@
-pub mod Calendar
 pub mod Content
 pub mod Der
 pub mod Fault
+pub mod Integer
 pub mod Items
+pub mod Nested
+pub mod Printed
+pub mod Reader
 pub mod Time
-pub mod Tag

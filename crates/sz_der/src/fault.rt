@@ -1,4 +1,8 @@
-use std::alloc::{AllocError, AllocFailed};
+//! Why bytes were not read, and want of memory.
+
+ghost use Rattle.std.specs.Prelude.{Some};
+
+use std::alloc::AllocError;
 use std::error::Error;
 use std::fmt;
 
@@ -18,14 +22,18 @@ pub enum DerKind {
 }
 
 impl fmt::Display for DerKind {
+    ghost use Rattle.sz_der.specs.Printed.{kind_text};
+
+    ghost output = { λ kind. Some (kind_text kind) };
+
     fn fmt<W: fmt::Write>(&self, f: &mut fmt::Formatter<W>) -> fmt::Result {
-        match self {
-            DerKind::Short => f.write_str("the item passes the end"),
-            DerKind::LongForm => f.write_str("the length is not in its shortest form"),
-            DerKind::Indefinite => f.write_str("the length is indefinite"),
-            DerKind::HighTag => f.write_str("the tag takes more than one octet"),
-            DerKind::Content => f.write_str("the item is not of the type"),
-        }
+        f.write_str(match self {
+            DerKind::Short => "the item passes the end",
+            DerKind::LongForm => "the length is not in its shortest form",
+            DerKind::Indefinite => "the length is indefinite",
+            DerKind::HighTag => "the tag takes more than one octet",
+            DerKind::Content => "the item is not of the type",
+        })
     }
 }
 
@@ -39,6 +47,10 @@ pub struct DerFault {
 }
 
 impl fmt::Display for DerFault {
+    ghost use Rattle.sz_der.specs.Printed.{fault_text};
+
+    ghost output = { λ fault. Some (fault_text fault) };
+
     fn fmt<W: fmt::Write>(&self, f: &mut fmt::Formatter<W>) -> fmt::Result {
         let kind = self.kind;
         let place = self.place;
@@ -52,22 +64,14 @@ impl Error for DerFault {}
 #[derive(Clone, Copy, Debug, PartialEq, Eq)]
 pub struct OutOfMemory;
 
-impl fmt::Display for OutOfMemory {
-    fn fmt<W: fmt::Write>(&self, f: &mut fmt::Formatter<W>) -> fmt::Result {
-        f.write_str("out of memory")
-    }
-}
-
-impl Error for OutOfMemory {}
-
 impl From<AllocError> for OutOfMemory {
     fn from(_: AllocError) -> Self {
         OutOfMemory
     }
 }
 
-impl<T: Drop> From<AllocFailed<T>> for OutOfMemory {
-    fn from(_: AllocFailed<T>) -> Self {
-        OutOfMemory
+impl From<OutOfMemory> for sz_base::OutOfMemory {
+    fn from(_: OutOfMemory) -> Self {
+        sz_base::OutOfMemory
     }
 }

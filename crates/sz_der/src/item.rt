@@ -1,11 +1,13 @@
-ghost use Rattle.std.specs.Prelude.{◌≡◌, ◌≢◌, ◌+◌, ◌-◌, ◌%◌, ◌<◌, ◌≤◌, ℕ, List, false, length, drop, slice_range, slice_index, IfOk, IfErr, Some, None, IsOkAnd};
-ghost use Rattle.sz_der.specs.Der.{Der, StandsAt, number_of};
+//! One item of the input, at a place.
+
+ghost use Rattle.std.specs.Prelude.{◌≡◌, ◌≢◌, ◌+◌, ◌-◌, ◌%◌, ◌^◌, ◌<◌, ◌≤◌, ℕ, List, false, length, drop, slice_index, IfOk, IfErr, Some, None, IsOkAnd};
+ghost use Rattle.sz_der.specs.Der.{StandsAt, number_of};
 ghost use Rattle.sz_der.specs.Fault.{fault_of, fault_at, header_size, content_size, counted, size_octets, is_padded};
+ghost use Rattle.sz_der.specs.Nested.{Extends};
 
 use crate::{DerFault, DerKind};
 
-/// One item of the input: a tag, a length and a content (X.690 section 8.1). The readers of types take its
-/// tag to stand at `after - whole.len()`, or at 0 where an item that was built by hand has that below 0.
+/// One item of the input: a tag, a length and a content (X.690 section 8.1).
 #[derive(Clone, Copy, Debug)]
 pub struct Item<'a> {
     /// The tag, with its class and whether it is constructed.
@@ -18,15 +20,20 @@ pub struct Item<'a> {
     pub after: usize,
 }
 
+impl Item<'_> {
+    /// The place of the item's tag, or 0 where an item that was built by hand has that below 0.
+    pub fn place(&self) -> usize
+        ensures { result ≡ self.now.after - length self.now.whole.now }
+    {
+        self.after.saturating_sub(self.whole.len())
+    }
+}
+
 /// One item at this place of the bytes, counted from 0. What the item holds is not looked into.
 pub fn next(bytes: &[u8], place: usize) -> Result<Item<'_>, DerFault>
-    // What is answered stands there.
-    ensures found { IfOk result
-        (λ item. StandsAt bytes.now place item.tag item.content.now item.whole.now) }
-    ensures after { IfOk result (λ item. item.after ≡ place + length item.whole.now) }
-    ensures content { IfOk result
-        (λ item. slice_range bytes.now (item.after - length item.content.now) item.after ≡ item.content.now) }
-    // What stands there is answered.
+    // What is answered stands there, and what stands there is answered.
+    ensures found { IfOk result (λ item. StandsAt bytes.now place item.tag item.content.now item.whole.now) }
+    ensures extends { IfOk result (λ item. Extends bytes.now place item.content.now item.whole.now item.after) }
     ensures only { (tag : ℕ) (content whole : List ℕ) → StandsAt bytes.now place tag content whole
         → IsOkAnd result (λ item. (item.tag ≡ tag) × (item.content.now ≡ content) × (item.whole.now ≡ whole)) }
     // Else it is the first fault that applies there.
@@ -137,9 +144,10 @@ fn is_padded(octets: &[u8]) -> bool
 }
 
 /// The number that the octets write, the most significant first.
-fn number(octets: &[u8]) -> usize
+pub(crate) fn number(octets: &[u8]) -> usize
     requires { length octets.now ≤ 4 }
-    ensures { result ≡ number_of octets.now }
+    ensures value { result ≡ number_of octets.now }
+    ensures bound { result < 256 ^ length octets.now }
 {
     let mut number = 0;
     for octet in octets {

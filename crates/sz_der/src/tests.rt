@@ -1,3 +1,5 @@
+//! Items of X.690 by hand: lengths and faults at their ends, each type's contents, dates, and a walk.
+
 use super::*;
 use std::test::Fail;
 
@@ -92,21 +94,74 @@ fn lengths_at_their_ends(rt: HostRuntime) -> Result<(), Fail> {
     Ok(())
 }
 
+/// INTEGERs by value, with their minimal octets.
+const NUMBERS: [(u32, &[u8]); 9] = [
+    (0, b"\x00"),
+    (127, b"\x7F"),
+    (128, b"\x00\x80"),
+    (32_767, b"\x7F\xFF"),
+    (32_768, b"\x00\x80\x00"),
+    (8_388_608, b"\x00\x80\x00\x00"),
+    (2_147_483_647, b"\x7F\xFF\xFF\xFF"),
+    (2_147_483_648, b"\x00\x80\x00\x00\x00"),
+    (4_294_967_295, b"\x00\xFF\xFF\xFF\xFF"),
+];
+
 #[test]
-fn items_in_order(rt: HostRuntime) -> Result<(), Fail> {
-    let mut writer = DerWriter::create(rt.alloc())?;
-    writer.item(tag::INTEGER, b"\x2A")?;
-    writer.item(tag::BOOLEAN, b"\xFF")?;
-    let bytes = writer.finish();
-    assert_eq!(rt; bytes.len(), 6);
-    assert!(rt; !bytes.is_empty());
-    let bytes = Bytes::from_vec(bytes.into_vec());
-    assert_eq!(rt; bytes.as_slice(), b"\x02\x01\x2A\x01\x01\xFF".as_slice());
-    let first = next(bytes.as_slice(), 0)?;
-    let second = next(bytes.as_slice(), first.after)?;
-    assert_eq!(rt; integer(&first), Ok(b"\x2A".as_slice()));
-    assert_eq!(rt; boolean(&second), Ok(true));
-    assert_eq!(rt; second.after, 6);
+fn numbers_and_their_octets(rt: HostRuntime) -> Result<(), Fail> {
+    for (number, octets) in NUMBERS {
+        let mut writer = DerWriter::create(rt.alloc())?;
+        writer.integer(number)?;
+        let written = next(writer.as_slice(), 0)?;
+        assert_eq!(rt; integer(&written), Ok(octets), "{number}");
+        assert_eq!(rt; integer_u32(&written), Ok(Some(number)), "{number}");
+    }
+    let past_32_bits = item(tag::INTEGER, b"\x01\x00\x00\x00\x00");
+    assert_eq!(rt; integer_u32(&past_32_bits), Ok(None));
+    assert_eq!(rt; integer_u32(&item(tag::INTEGER, b"\xFF")), Ok(None));
+    assert_eq!(rt; integer_u32(&item(tag::INTEGER, b"\x00\x7F")), Err(AT_TAG));
+    Ok(())
+}
+
+/// A SEQUENCE at place 2 that holds a BOOLEAN, an INTEGER and an item that passes its end, and another item.
+const HELD: &[u8] = b"\x05\x00\x30\x08\x01\x01\xFF\x02\x01\x2A\x04\x01\x00\x00";
+
+#[test]
+fn a_walk_within_an_item(rt: HostRuntime) -> Result<(), Fail> {
+    let holder = next(HELD, 2)?;
+    assert_eq!(rt;
+        content_of(&holder, tag::SEQUENCE),
+        Ok(HELD.get(4..12).unwrap_or(&[]))
+    );
+    let mut reader = DerReader::inside(&holder);
+    assert_eq!(rt;
+        reader.next_tagged(tag::INTEGER)?.map(|found| found.after),
+        None
+    );
+    assert_eq!(rt;
+        reader.next_tagged(tag::BOOLEAN)?.map(|found| found.after),
+        Some(7)
+    );
+    assert_eq!(rt; reader.place(), 7);
+    let number = reader.take_item()?;
+    assert_eq!(rt;
+        (integer_u32(&number), number.place(), number.after),
+        (Ok(Some(42)), 7, 10)
+    );
+    let passes_the_end = Some(DerFault {
+        kind: DerKind::Short,
+        place: 10,
+    });
+    assert_eq!(rt; reader.next_item().err(), passes_the_end);
+    let mut all = DerReader::over(HELD);
+    let mut ends = Vec::new(rt.alloc());
+    for _ in 0..4 {
+        match all.next_item()? {
+            Some(found) => ends.push(found.after)?,
+            None => break,
+        }
+    }
+    assert_eq!(rt; ends.as_slice(), [2, 12, 14].as_slice());
     Ok(())
 }
 
@@ -149,6 +204,19 @@ const BIT_STRINGS: [(&[u8], Result<&[u8], DerFault>); 4] = [
     (b"", Err(AT_TAG)),
 ];
 
+/// Bit k of the standard has the value 2^k.
+const NAMED_BITS: [(&[u8], Result<u16, DerFault>); 9] = [
+    (b"\x00", Ok(0)),
+    (b"\x07\x80", Ok(1)),
+    (b"\x05\xA0", Ok(0b101)),
+    (b"\x01\x06", Ok(0b110_0000)),
+    (b"\x07\x00\x80", Ok(0x100)),
+    (b"\x00\x80\x01\xFF", Ok(0x8001)),
+    (b"\x01", Err(AT_TAG)),
+    (b"\x08\x00", Err(AT_TAG)),
+    (b"\x05\xB0", Err(AT_TAG)),
+];
+
 #[test]
 fn contents_of_each_type(rt: HostRuntime) {
     for (content, is_integer) in INTEGERS {
@@ -173,6 +241,13 @@ fn contents_of_each_type(rt: HostRuntime) {
             "{content:?}"
         );
     }
+    for (content, expected) in NAMED_BITS {
+        assert_eq!(rt;
+            named_bits(&item(tag::BIT_STRING, content)),
+            expected,
+            "{content:?}"
+        );
+    }
     let oid_content = b"\x2A\x86\x48".as_slice();
     assert_eq!(rt;
         oid(&item(tag::OBJECT_IDENTIFIER, oid_content)),
@@ -186,10 +261,11 @@ fn contents_of_each_type(rt: HostRuntime) {
 
 #[test]
 fn another_tag_is_refused(rt: HostRuntime) {
-    let null = item(0x05, b"\x00");
+    let null = item(tag::NULL, b"\x00");
     assert_eq!(rt; integer(&null), Err(AT_TAG));
     assert_eq!(rt; oid(&null), Err(AT_TAG));
     assert_eq!(rt; bit_string(&null), Err(AT_TAG));
+    assert_eq!(rt; named_bits(&null), Err(AT_TAG));
     assert_eq!(rt; octet_string(&null), Err(AT_TAG));
     assert_eq!(rt; boolean(&null), Err(AT_TAG));
     assert_eq!(rt; time(&null), Err(AT_TAG));

@@ -1,9 +1,13 @@
-ghost use Rattle.std.specs.Prelude.{◌≡◌, ◌≢◌, ◌+◌, ◌%◌, ◌^◌, ◌<◌, ◌≤◌, List, [], ◌++◌, length, vec_capacity, vec_len, IsOkAnd, OnOk, OnErr, IsErr, IsOk};
-ghost use Rattle.sz_der.specs.Items.{AppendsItem, AppendsSize};
+//! A writer of whole items, one after another.
 
-use crate::{Bytes, OutOfMemory};
-use std::alloc::{AllocError, Global};
+ghost use Rattle.std.specs.Prelude.{◌≡◌, ◌≢◌, ◌+◌, ◌%◌, ◌^◌, ◌≤◌, ℕ, List, [], length, vec_capacity, vec_len, IsOkAnd, OnOk, OnErr, IsErr};
+ghost use Rattle.sz_der.specs.Items.{AppendsInteger, AppendsItem, AppendsSize};
+
+use crate::OutOfMemory;
+use crate::tag::INTEGER;
+use std::alloc::Global;
 use std::marker::Model;
+use sz_base::Bytes;
 
 /// Items written one after another. Contracts see it as the bytes so far.
 #[derive(Debug, Drop)]
@@ -38,6 +42,28 @@ impl DerWriter {
         ensures long { 2 ^ 32 ≤ length content.now → IsErr result }
     {
         append_item(&mut self.bytes, tag, content)
+    }
+
+    /// Writes the INTEGER of this value, in as few octets as will do. A refusal leaves the writer as it was.
+    pub fn integer(&mut self, number: u32) -> Result<(), OutOfMemory>
+        ensures ok { OnOk result (AppendsInteger self.old self.new number) }
+        ensures err { OnErr result (self.new ≡ self.old) }
+    {
+        let [top, upper, lower, low] = number.to_be_bytes();
+        match number {
+            0..=0x7F => self.item(INTEGER, &[low]),
+            0x80..=0x7FFF => self.item(INTEGER, &[lower, low]),
+            0x8000..=0x7F_FFFF => self.item(INTEGER, &[upper, lower, low]),
+            0x80_0000..=0x7FFF_FFFF => self.item(INTEGER, &[top, upper, lower, low]),
+            _ => self.item(INTEGER, &[0, top, upper, lower, low]),
+        }
+    }
+
+    /// What was written so far.
+    pub fn as_slice(&self) -> &[u8]
+        ensures { result.now ≡ self.now }
+    {
+        self.bytes.as_slice()
     }
 
     /// What was written.

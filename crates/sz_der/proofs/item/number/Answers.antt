@@ -9,5 +9,6 @@ overflow_mul-number c =
 pub loop-octet-preserved : goal.loop-octet-preserved
 loop-octet-preserved c = record {
   read = omega (arith, number_of_more c.args.octets.now c.loop-octet.octet-index (omega arith), c.from.ensures, c.loop-octet.invariant.read);
-  fits = step_below c.loop-octet.octet-index c.loop-octet.number c.from.result (omega (arith, c.from.ensures, c.type_inv.octets c.loop-octet.octet-index)) c.loop-octet.invariant.fits;
+  fits = step_below c.loop-octet.octet-index c.loop-octet.number c.from.result
+      (omega (arith, c.from.ensures, c.type_inv.octets c.loop-octet.octet-index)) c.loop-octet.invariant.fits;
 }
