@@ -1,8 +1,8 @@
 -- What comes to a listener and what it sends, and what each call does to that.
-use Rattle.std.specs.Prelude.{◌≡◌, ℕ, List, ◌∷◌, ◌++◌, take, Option, Some, IsSomeAnd, option_to_list}
+use Rattle.std.specs.Prelude.{◌≡◌, ℕ, List, [], ◌∷◌, ◌++◌, take, Option, Some, None, IsSomeAnd, option_to_list}
 use Rattle.std.specs.Option.{option_map}
 use Rattle.sz_io.specs.declared.script.Script.{Script}
-use Rattle.sz_io.specs.Connection.{Connection, connection_over, with_sent, with_received, MayReceive}
+use Rattle.sz_io.specs.Connection.{Connection, connection_over, with_sent, with_received, MayReceive, IsAtLoss}
 
 -- the connections that are still to be accepted, in order; the one accepted last, also where it stands no
 -- more; and the bytes sent on each connection accepted before it, in order
@@ -40,3 +40,15 @@ pub record ReceivesOnLast (into : List ℕ) (count : ℕ) (before now : Arrivals
   pub stood : before.last ≡ Some connection
   pub may : MayReceive connection into count
   pub gives : now ≡ with_last before (with_received count connection)
+
+-- no connection was accepted yet
+abbrev pub first_arrivals : List Script → Arrivals
+first_arrivals connections = record { to_come = connections; last = None; earlier = [] }
+
+-- the connection accepted last is lost, and all its bytes were received
+abbrev pub IsLastAtLoss : Arrivals → Type 0
+IsLastAtLoss arrivals = IsSomeAnd arrivals.last IsAtLoss
+
+-- a script's bytes
+abbrev pub bytes_of : Script → List ℕ
+bytes_of script = script.bytes

@@ -4,7 +4,7 @@
 #![tactic(auto)]
 
 mod clock;
-mod copy;
+
 mod entropy;
 mod exchange;
 mod folder;
@@ -15,8 +15,10 @@ mod net;
 mod ongoing;
 mod plan;
 mod read;
+mod rest;
 mod script;
 mod script_connection;
+mod script_listener;
 mod script_net;
 mod set_clock;
 mod set_entropy;
@@ -32,6 +34,7 @@ pub use memory_sink::MemorySink;
 pub use net::Net;
 pub use read::{Found, read_whole};
 pub use script::{Script, Scripts};
+pub use script_listener::ScriptListener;
 pub use script_net::ScriptNet;
 pub use set_clock::{SetClock, Times};
 pub use set_entropy::SetEntropy;

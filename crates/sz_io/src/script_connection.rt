@@ -3,7 +3,7 @@ ghost use Rattle.std.specs.Prelude.{◌≡◌, ◌↔◌, ◌≤◌, min, length
 ghost use Rattle.sz_io.specs.Connection.{connection_over, with_sent, with_received, IsAtLoss};
 
 use crate::Script;
-use crate::copy::copy_from;
+use crate::rest::{copy_from, is_over};
 use std::alloc::Global;
 use std::marker::Model;
 use sz_base::{Bytes, OutOfMemory};
@@ -50,7 +50,7 @@ impl ScriptConnection {
     pub fn is_at_loss(&self) -> bool
         ensures { IsTrue result ↔ IsAtLoss self.now }
     {
-        self.received == self.script.bytes.len() && !self.script.closed
+        is_over(self.script.bytes.as_slice(), self.received) && !self.script.closed
     }
 
     /// The bytes that were sent.

@@ -1,5 +1,5 @@
 //! A network in memory.
-ghost use Rattle.std.specs.Prelude.{◌≡◌, ◌↔◌, ◌⊎◌, ◌≢◌, ◌+◌, ◌<◌, ◌≤◌, [], ◌∷◌, ◌++◌, min, length, Some, None, OnOk, OnErr, IfOk, IsErr, IsErrOf, IsSome, is_err, vec_len, option_to_list};
+ghost use Rattle.std.specs.Prelude.{◌≡◌, ◌↔◌, ◌⊎◌, ◌+◌, ◌<◌, ◌≤◌, [], ◌∷◌, ◌++◌, min, length, Some, None, OnOk, OnErr, IfOk, IsErr, IsErrOf, IsSome, is_err, vec_len, option_to_list};
 ghost use Rattle.std.specs.Option.{option_map};
 ghost use Rattle.std.specs.Vec.{vec_capacity};
 ghost use Rattle.sz_base.specs.Fault.{put_failed};
@@ -9,6 +9,7 @@ ghost use Rattle.sz_io.specs.Net.{Connects, Sends, Receives, after_close, after_
 
 use crate::ongoing::Ongoing;
 use crate::plan::FaultPlan;
+use crate::rest::is_over;
 use crate::script::take_script;
 use crate::{Exchange, ExchangeEnd, Net, Script, Scripts};
 use std::alloc::Global;
@@ -84,8 +85,9 @@ impl Net for ScriptNet {
             → self.new.traffic ≡ after_refused_connect target.now self.old.traffic }
         ensures no_memory { IsErrOf result PutFault.OutOfMemory → self.new.traffic ≡ after_close self.old.traffic }
         ensures cause { HasCause self.old.plan.faults self.new.plan.faults (put_failed result) }
-        ensures fails { result ≢ Err PutFault.OutOfMemory
-            → IsErrOf result PutFault.Failed ↔ (FailsNext self.old.plan ⊎ (self.old.traffic.to_come ≡ [])) }
+        ensures fails { IsErrOf result PutFault.Failed
+            → FailsNext self.old.plan ⊎ (self.old.traffic.to_come ≡ []) }
+        ensures spared { OnOk result (¬ (FailsNext self.old.plan ⊎ (self.old.traffic.to_come ≡ []))) }
         ensures counted { self.new.plan ≡ after_call self.old.plan (put_failed result) }
     {
         leave(&mut self.past, &mut self.standing);
@@ -93,7 +95,7 @@ impl Net for ScriptNet {
             self.plan.pass();
             return Err(PutFault::OutOfMemory);
         };
-        if self.plan.next_fails_or(self.taken == self.answers.len()) {
+        if self.plan.next_fails_or(is_over(self.answers.as_slice(), self.taken)) {
             self.past.push_reserved(refused(self.alloc, target));
             return Err(PutFault::Failed);
         }
@@ -109,7 +111,7 @@ impl Net for ScriptNet {
         ensures failed { IsErrOf result PutFault.Failed
             → self.new.traffic ≡ after_refused_receive self.old.traffic }
         ensures no_memory { IsErrOf result PutFault.OutOfMemory
-            → IsSome self.old.traffic.standing × (self.new.traffic ≡ self.old.traffic) }
+            → Sends [] self.old.traffic self.new.traffic }
         ensures cause { HasCause self.old.plan.faults self.new.plan.faults (put_failed result) }
         ensures fails { IsErrOf result PutFault.Failed
             ↔ (FailsNext self.old.plan ⊎ (self.old.traffic.standing ≡ None)) }

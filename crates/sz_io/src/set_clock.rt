@@ -5,6 +5,7 @@ ghost use Rattle.sz_io.specs.Plan.{first_plan, FailsNext, after_call};
 
 use crate::Clock;
 use crate::plan::FaultPlan;
+use crate::rest::is_over;
 use std::alloc::Global;
 use std::marker::Model;
 use sz_base::{Calls, Failed, Items, Seconds};
@@ -58,11 +59,12 @@ impl Clock for SetClock {
         ensures fails { IsErr result ↔ (FailsNext self.old.plan ⊎ (self.old.answers ≡ [])) }
         ensures counted { self.new.plan ≡ after_call self.old.plan (is_err result) }
     {
-        let next = self.answers.get(self.told).copied();
-        if self.plan.next_fails_or(next.is_none()) {
+        let answers = self.answers.as_slice();
+        if self.plan.next_fails_or(is_over(answers, self.told)) {
             return Err(Failed);
         }
+        let time = answers[self.told];
         self.told += 1;
-        next.ok_or(Failed)
+        Ok(time)
     }
 }

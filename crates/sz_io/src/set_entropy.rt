@@ -57,11 +57,10 @@ impl Entropy for SetEntropy {
         ensures counted { self.new.plan ≡ after_call self.old.plan (is_err result) }
     {
         let rest = &self.bytes.as_slice()[self.given..];
-        let too_few = rest.len() < into.len();
-        if self.plan.next_fails_or(too_few) {
+        if self.plan.next_fails_or(rest.len() < into.len()) {
             return Err(Failed);
         }
-        into.copy_from_slice(&self.bytes.as_slice()[self.given..self.given + into.len()]);
+        into.copy_from_slice(&rest[..into.len()]);
         self.given += into.len();
         Ok(())
     }
