@@ -1,6 +1,11 @@
 -- One end of a connection: what went over it, and what is still to come on it.
-use Rattle.std.specs.Prelude.{◌≡◌, ℕ, ◌<◌, ◌≤◌, Bool, false, IsTrue, List, [], ◌++◌, length, take, drop}
+use Rattle.std.specs.Prelude.{◌≡◌, ℕ, ◌<◌, ◌≤◌, false, IsTrue, List, [], ◌∷◌, ◌++◌, length, take, drop, Option, None, Some}
 use Rattle.sz_io.specs.declared.script.Script.{Script}
+
+-- the list, with the element at its end where there is one
+abbrev pub push_some : {A : Type 0} → List A → Option A → List A
+push_some list None = list
+push_some list (Some last) = list ++ last ∷ []
 
 -- the bytes sent and received so far, and the bytes that are still to come, with their end
 pub record Connection : Type 0 where

@@ -1,8 +1,8 @@
 -- What comes to a listener and what it sends, and what each call does to that.
-use Rattle.std.specs.Prelude.{◌≡◌, ℕ, List, [], ◌∷◌, ◌++◌, take, Option, Some, None, IsSomeAnd, option_to_list}
-use Rattle.std.specs.Option.{option_map}
+use Rattle.std.specs.Prelude.{◌≡◌, ℕ, List, [], ◌∷◌, take, Option, Some, None, IsSomeAnd}
+use Rattle.std.specs.Option.{option_map, option_map_or}
 use Rattle.sz_io.specs.declared.script.Script.{Script}
-use Rattle.sz_io.specs.Connection.{Connection, connection_over, with_sent, with_received, MayReceive, IsAtLoss}
+use Rattle.sz_io.specs.Connection.{Connection, push_some, connection_over, with_sent, with_received, MayReceive, IsAtLoss}
 
 -- the connections that are still to be accepted, in order; the one accepted last, also where it stands no
 -- more; and the bytes sent on each connection accepted before it, in order
@@ -13,7 +13,7 @@ pub record Arrivals : Type 0 where
 
 -- the bytes sent on each accepted connection, in order
 abbrev pub sent_on_each : Arrivals → List (List ℕ)
-sent_on_each arrivals = arrivals.earlier ++ option_to_list (option_map (λ connection. connection.sent) arrivals.last)
+sent_on_each arrivals = push_some arrivals.earlier (option_map (λ connection. connection.sent) arrivals.last)
 
 -- the front connection was accepted
 pub record Accepts (before now : Arrivals) : Type 0 where
@@ -52,3 +52,7 @@ IsLastAtLoss arrivals = IsSomeAnd arrivals.last IsAtLoss
 -- a script's bytes
 abbrev pub bytes_of : Script → List ℕ
 bytes_of script = script.bytes
+
+-- the bytes still to come on the connection accepted last, if one was
+abbrev pub bytes_to_come : Arrivals → List ℕ
+bytes_to_come arrivals = option_map_or (λ connection. connection.rest.bytes) arrivals.last []

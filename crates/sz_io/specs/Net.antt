@@ -1,13 +1,13 @@
 -- What goes over a network: the exchanges so far and the answers still to come, and what each call does to
 -- them.
-use Rattle.std.specs.Prelude.{◌≡◌, ℕ, ◌==◌, ◌&&◌, not, Bool, List, [], ◌∷◌, ◌++◌, length, take, Option, Some, None, MatchOption, IsSomeAnd, if◌then◌else◌, option_to_list}
-use Rattle.std.specs.Option.{option_map}
+use Rattle.std.specs.Prelude.{◌≡◌, ℕ, ◌==◌, ◌&&◌, not, List, [], ◌∷◌, ◌++◌, length, take, Option, Some, None, MatchOption, IsSomeAnd, if◌then◌else◌}
+use Rattle.std.specs.Option.{option_map, option_map_or}
 use Rattle.sz_base.specs.declared.target.Target.{Target}
 use Rattle.sz_io.specs.declared.script.Script.{Script}
 use Rattle.sz_io.specs.declared.exchange.Exchange.{Exchange}
 use Rattle.sz_io.specs.declared.exchange.ExchangeEnd.{ExchangeEnd}
 use Rattle.sz_io.specs.declared.exchange.ExchangeEnd.TheVariants.{Open, Closed, Lost, Left}
-use Rattle.sz_io.specs.Connection.{Connection, connection_over, with_sent, with_received, MayReceive, IsAtLoss}
+use Rattle.sz_io.specs.Connection.{Connection, push_some, connection_over, with_sent, with_received, MayReceive, IsAtLoss}
 
 -- the exchange whose connection stands
 pub record Standing : Type 0 where
@@ -33,7 +33,7 @@ exchange_of standing = record {
 
 -- all exchanges so far, in the order of their connects
 abbrev pub exchanges : Traffic → List Exchange
-exchanges traffic = traffic.past ++ option_to_list (option_map exchange_of traffic.standing)
+exchanges traffic = push_some traffic.past (option_map exchange_of traffic.standing)
 
 -- the end that came first decides
 abbrev pub first_end : ExchangeEnd → ExchangeEnd → ExchangeEnd
@@ -48,7 +48,7 @@ ended end standing = record standing { end = first_end standing.end end }
 
 -- the exchanges so far, where the connection that stood was left
 abbrev pub left_behind : Traffic → List Exchange
-left_behind traffic = traffic.past ++ option_to_list (option_map (λ standing. exchange_of (ended Left standing)) traffic.standing)
+left_behind traffic = push_some traffic.past (option_map (λ standing. exchange_of (ended Left standing)) traffic.standing)
 
 -- no connection stands any more; the one that did was left
 abbrev pub after_close : Traffic → Traffic
@@ -122,3 +122,7 @@ first_traffic answers = record { to_come = answers; past = []; standing = None }
 -- no connection stands, or all of a lost answer was received
 abbrev pub NoneToReceive : Traffic → Type 0
 NoneToReceive traffic = MatchOption traffic.standing (Unit {0}) (λ standing. IsAtLoss standing.connection)
+
+-- the bytes still to come on the connection that stands, if one does
+abbrev pub bytes_to_come : Traffic → List ℕ
+bytes_to_come traffic = option_map_or (λ standing. standing.connection.rest.bytes) traffic.standing []

@@ -1,10 +1,11 @@
 //! A listener in memory.
-ghost use Rattle.std.specs.Prelude.{◌≡◌, ◌↔◌, ◌⊎◌, ◌≤◌, [], length, true, false, IsTrue, Some, None, OnOk, OnErr, IfOk, IsErr, IsErrOf, is_ok, is_err, slice_get, ◌+◌, ◌-◌, ◌<◌, ◌++◌, take, drop, map, IsSome, option_to_list};
+ghost use Rattle.std.specs.Prelude.{◌≡◌, ◌↔◌, ◌⊎◌, ◌≤◌, [], length, true, false, IsTrue, Some, None, OnOk, OnErr, IfOk, IsErr, IsErrOf, is_ok, is_err, slice_get, ◌+◌, ◌-◌, min, ◌<◌, ◌++◌, take, drop, map, IsSome};
 ghost use Rattle.std.specs.Option.{option_copied, option_map};
 ghost use Rattle.sz_base.specs.Fault.{put_failed};
 ghost use Rattle.sz_spec.specs.Cause.{HasCause};
 ghost use Rattle.sz_io.specs.Plan.{first_plan, FailsNext, after_call};
-ghost use Rattle.sz_io.specs.Listener.{Accepts, SendsOnLast, ReceivesOnLast, first_arrivals, sent_on_each, IsLastAtLoss, bytes_of};
+ghost use Rattle.sz_io.specs.Connection.{push_some};
+ghost use Rattle.sz_io.specs.Listener.{Accepts, SendsOnLast, ReceivesOnLast, first_arrivals, sent_on_each, IsLastAtLoss, bytes_of, bytes_to_come};
 
 use crate::plan::FaultPlan;
 use crate::rest::is_over;
@@ -32,7 +33,8 @@ pub struct ScriptListener {
 impl Model for ScriptListener {
     ghost use Rattle.std.specs.Prelude.{◌<◌, ◌≤◌, ◌-◌, ◌≡◌, None, map, length, take, drop, IsSome, IsTrue};
     ghost use Rattle.sz_io.specs.Memory.{ListenerState};
-    ghost use Rattle.sz_io.specs.Listener.{bytes_of};
+    ghost use Rattle.sz_io.specs.Connection.{push_some};
+ghost use Rattle.sz_io.specs.Listener.{bytes_of};
 
     ghost Value = { ListenerState };
 
@@ -130,7 +132,7 @@ impl Listener for ScriptListener {
     /// Receives as many bytes as are still to come and `into` takes.
     fn receive(&mut self, into: &mut [u8]) -> Result<usize, Failed>
         requires { IsTrue self.old.stands }
-        ensures within { IfOk result (λ count. count ≤ length into.old) }
+        ensures count { IfOk result (λ count. count ≡ min (length into.old) (length (bytes_to_come self.old.arrivals))) }
         ensures ok { IfOk result (λ count. ReceivesOnLast into.new count self.old.arrivals self.new.arrivals) }
         ensures refused { OnErr result (self.new.arrivals ≡ self.old.arrivals) }
         ensures stands { IsTrue self.new.stands }
@@ -181,8 +183,8 @@ fn keep_sent(scripts: &mut [Script], accepted: usize, last: Option<ScriptConnect
     requires within { accepted ≤ length scripts.old }
     requires some { IsSome last → 0 < accepted }
     requires none { last ≡ None → accepted ≡ 0 }
-    ensures earlier { map bytes_of (take accepted scripts.new) ≡ map bytes_of (take (accepted - 1) scripts.old)
-        ++ option_to_list (option_map (λ connection. connection.sent) last) }
+    ensures earlier { map bytes_of (take accepted scripts.new) ≡
+        push_some (map bytes_of (take (accepted - 1) scripts.old)) (option_map (λ connection. connection.sent) last) }
     ensures to_come { drop accepted scripts.new ≡ drop accepted scripts.old }
 {
     if let Some(last) = last {

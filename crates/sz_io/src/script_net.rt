@@ -1,11 +1,12 @@
 //! A network in memory.
-ghost use Rattle.std.specs.Prelude.{◌≡◌, ◌↔◌, ◌⊎◌, ◌+◌, ◌<◌, ◌≤◌, [], ◌∷◌, ◌++◌, min, length, Some, None, OnOk, OnErr, IfOk, IsErr, IsErrOf, IsSome, is_err, vec_len, option_to_list};
+ghost use Rattle.std.specs.Prelude.{◌≡◌, ◌↔◌, ◌⊎◌, ◌+◌, ◌<◌, ◌≤◌, [], ◌∷◌, ◌++◌, min, length, Some, None, OnOk, OnErr, IfOk, IsErr, IsErrOf, IsSome, is_err, vec_len};
 ghost use Rattle.std.specs.Option.{option_map};
 ghost use Rattle.std.specs.Vec.{vec_capacity};
 ghost use Rattle.sz_base.specs.Fault.{put_failed};
 ghost use Rattle.sz_spec.specs.Cause.{HasCause};
 ghost use Rattle.sz_io.specs.Plan.{first_plan, FailsNext, after_call};
-ghost use Rattle.sz_io.specs.Net.{Connects, Sends, Receives, after_close, after_refused_connect, after_refused_receive, exchange_of, ended, first_traffic, refused_exchange, NoneToReceive};
+ghost use Rattle.sz_io.specs.Connection.{push_some};
+ghost use Rattle.sz_io.specs.Net.{Connects, Sends, Receives, after_close, after_refused_connect, after_refused_receive, exchange_of, ended, first_traffic, refused_exchange, NoneToReceive, bytes_to_come};
 
 use crate::ongoing::Ongoing;
 use crate::plan::FaultPlan;
@@ -131,7 +132,7 @@ impl Net for ScriptNet {
 
     /// Receives as many bytes as are still to come and `into` takes.
     fn receive(&mut self, into: &mut [u8]) -> Result<usize, Failed>
-        ensures within { IfOk result (λ count. count ≤ length into.old) }
+        ensures count { IfOk result (λ count. count ≡ min (length into.old) (length (bytes_to_come self.old.traffic))) }
         ensures ok { IfOk result (λ count. Receives into.new count self.old.traffic self.new.traffic) }
         ensures failed { OnErr result (self.new.traffic ≡ after_refused_receive self.old.traffic) }
         ensures cause { HasCause self.old.plan.faults self.new.plan.faults (is_err result) }
@@ -165,7 +166,7 @@ impl Net for ScriptNet {
 fn leave(past: &mut Vec<Exchange>, standing: &mut Option<Ongoing>)
     requires { IsSome standing.old → vec_len past.old < vec_capacity past.old }
     ensures past { past.new.items
-        ≡ past.old.items ++ option_to_list (option_map (λ one. exchange_of (ended ExchangeEnd.Left one)) standing.old) }
+        ≡ push_some past.old.items (option_map (λ one. exchange_of (ended ExchangeEnd.Left one)) standing.old) }
     ensures standing { standing.new ≡ None }
 {
     if let Some(mut ongoing) = standing.take() {
