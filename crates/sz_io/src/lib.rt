@@ -4,7 +4,6 @@
 #![tactic(auto)]
 
 mod clock;
-
 mod entropy;
 mod exchange;
 mod folder;

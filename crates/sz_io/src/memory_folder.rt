@@ -8,8 +8,8 @@ ghost use Rattle.sz_io.specs.Folder.{bytes_at, readable_at, with_file, files_of,
 ghost use Rattle.sz_io.specs.Plan.{first_plan, FailsNext, after_call};
 
 use crate::Folder;
-use crate::rest::copy_from;
 use crate::plan::FaultPlan;
+use crate::rest::copy_from;
 use std::alloc::Global;
 use std::marker::Model;
 use sz_base::{Bytes, Calls, Failed, Items, OutOfMemory, PutFault, Text};

@@ -23,9 +23,9 @@ impl Model for Ongoing {
     ghost Value = { Standing };
 
     ghost view = { λ ongoing. record {
-        target = ongoing.target;
-        connection = ongoing.connection;
-        end = ongoing.end;
+      target = ongoing.target;
+      connection = ongoing.connection;
+      end = ongoing.end;
     } };
 }
 

@@ -68,9 +68,7 @@ impl FaultPlan {
     fn is_next_named(&self) -> bool
         ensures { IsTrue result ↔ FailsNext self.now }
     {
-        self.fail
-            .as_slice()
-            .contains(&self.calls.saturating_add(1))
+        self.fail.as_slice().contains(&self.calls.saturating_add(1))
     }
 
     // Counts a call.

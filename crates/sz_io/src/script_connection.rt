@@ -23,12 +23,12 @@ impl Model for ScriptConnection {
     ghost Value = { Connection };
 
     ghost view = { λ connection. record {
-        sent = connection.sent;
-        received = take connection.received connection.script.bytes;
-        rest = record {
-            bytes = drop connection.received connection.script.bytes;
-            closed = connection.script.closed;
-        };
+      sent = connection.sent;
+      received = take connection.received connection.script.bytes;
+      rest = record {
+        bytes = drop connection.received connection.script.bytes;
+        closed = connection.script.closed;
+      };
     } };
 
     ghost invariant = { λ connection. connection.received ≤ length connection.script.bytes };

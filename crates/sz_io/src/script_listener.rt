@@ -34,18 +34,18 @@ impl Model for ScriptListener {
     ghost use Rattle.std.specs.Prelude.{◌<◌, ◌≤◌, ◌-◌, ◌≡◌, None, map, length, take, drop, IsSome, IsTrue};
     ghost use Rattle.sz_io.specs.Memory.{ListenerState};
     ghost use Rattle.sz_io.specs.Connection.{push_some};
-ghost use Rattle.sz_io.specs.Listener.{bytes_of};
+    ghost use Rattle.sz_io.specs.Listener.{bytes_of};
 
     ghost Value = { ListenerState };
 
     ghost view = { λ listener. record {
-        arrivals = record {
-            to_come = drop listener.accepted listener.scripts.items;
-            last = listener.last;
-            earlier = map bytes_of (take (listener.accepted - 1) listener.scripts.items);
-        };
-        stands = listener.stands;
-        plan = listener.plan;
+      arrivals = record {
+        to_come = drop listener.accepted listener.scripts.items;
+        last = listener.last;
+        earlier = map bytes_of (take (listener.accepted - 1) listener.scripts.items);
+      };
+      stands = listener.stands;
+      plan = listener.plan;
     } };
 
     ghost invariant = { λ listener. (listener.accepted ≤ length listener.scripts.items)
@@ -118,7 +118,10 @@ impl Listener for ScriptListener {
         ensures counted { self.new.plan ≡ after_call self.old.plan (is_err result) }
     {
         self.stands = false;
-        if self.plan.next_fails_or(is_over(self.scripts.as_slice(), self.accepted)) {
+        if self
+            .plan
+            .next_fails_or(is_over(self.scripts.as_slice(), self.accepted))
+        {
             return Err(Failed);
         }
         keep_sent(self.scripts.as_mut_slice(), self.accepted, self.last.take());

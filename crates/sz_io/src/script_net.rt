@@ -38,12 +38,12 @@ impl Model for ScriptNet {
     ghost Value = { NetState };
 
     ghost view = { λ net. record {
-        traffic = record {
-            to_come = drop net.taken net.answers.items;
-            past = net.past.items;
-            standing = net.standing;
-        };
-        plan = net.plan;
+      traffic = record {
+        to_come = drop net.taken net.answers.items;
+        past = net.past.items;
+        standing = net.standing;
+      };
+      plan = net.plan;
     } };
 
     ghost invariant = { λ net. (net.taken ≤ length net.answers.items)
@@ -96,7 +96,10 @@ impl Net for ScriptNet {
             self.plan.pass();
             return Err(PutFault::OutOfMemory);
         };
-        if self.plan.next_fails_or(is_over(self.answers.as_slice(), self.taken)) {
+        if self
+            .plan
+            .next_fails_or(is_over(self.answers.as_slice(), self.taken))
+        {
             self.past.push_reserved(refused(self.alloc, target));
             return Err(PutFault::Failed);
         }
@@ -176,11 +179,7 @@ fn leave(past: &mut Vec<Exchange>, standing: &mut Option<Ongoing>)
 }
 
 // Makes room for one more exchange, and copies its target. A refusal changes nothing.
-fn prepare(
-    alloc: Global,
-    past: &mut Vec<Exchange>,
-    target: &Target,
-) -> Result<Target, OutOfMemory>
+fn prepare(alloc: Global, past: &mut Vec<Exchange>, target: &Target) -> Result<Target, OutOfMemory>
     ensures copied { IfOk result (λ copied. copied ≡ target.now) }
     ensures room { OnOk result (vec_len past.new < vec_capacity past.new) }
     ensures unchanged { past.new.items ≡ past.old.items }

@@ -7,4 +7,5 @@ use Rattle.sz_io.proofs.rest.is_over.Goals as goal
 pub returns : goal.returns
 returns g c = (
   (λ all. drop_all c.args.taken c.args.items.now (grind (arith, nat_tests))),
-  (λ none. let all : c.args.taken ≡ length c.args.items.now = drop-none c.args.items.now c.args.taken c.requires none in grind (arith, nat_tests)))
+  (λ none. let all : c.args.taken ≡ length c.args.items.now = drop-none c.args.items.now c.args.taken c.requires none in grind (arith, nat_tests)),
+)
