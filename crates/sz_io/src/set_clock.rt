@@ -5,7 +5,7 @@ ghost use Rattle.sz_io.specs.Plan.{first_plan, FailsNext, after_call};
 
 use crate::Clock;
 use crate::plan::FaultPlan;
-use crate::rest::is_over;
+use crate::rest::Rest;
 use std::alloc::Global;
 use std::marker::Model;
 use sz_base::{Calls, Failed, Items, Seconds};
@@ -17,20 +17,16 @@ pub type Times = Items<Seconds>;
 /// told to and where no time is left.
 #[derive(Debug, Drop)]
 pub struct SetClock {
-    answers: Times,
-    told: usize,
+    answers: Rest<Seconds>,
     plan: FaultPlan,
 }
 
 impl Model for SetClock {
-    ghost use Rattle.std.specs.Prelude.{◌≤◌, length, drop};
     ghost use Rattle.sz_io.specs.Memory.{ClockState};
 
     ghost Value = { ClockState };
 
-    ghost view = { λ clock. record { answers = drop clock.told clock.answers; plan = clock.plan } };
-
-    ghost invariant = { λ clock. clock.told ≤ length clock.answers };
+    ghost view = { λ clock. record { answers = clock.answers; plan = clock.plan } };
 }
 
 impl SetClock {
@@ -40,8 +36,7 @@ impl SetClock {
         ensures plan { result.plan ≡ first_plan fail }
     {
         SetClock {
-            answers,
-            told: 0,
+            answers: Rest::of(answers),
             plan: FaultPlan::create(fail),
         }
     }
@@ -59,12 +54,11 @@ impl Clock for SetClock {
         ensures fails { IsErr result ↔ (FailsNext self.old.plan ⊎ (self.old.answers ≡ [])) }
         ensures counted { self.new.plan ≡ after_call self.old.plan (is_err result) }
     {
-        let answers = self.answers.as_slice();
-        if self.plan.next_fails_or(is_over(answers, self.told)) {
+        if self.plan.next_fails_or(self.answers.as_slice().is_empty()) {
             return Err(Failed);
         }
-        let time = answers[self.told];
-        self.told += 1;
+        let time = self.answers.as_slice()[0];
+        self.answers.skip(1);
         Ok(time)
     }
 }

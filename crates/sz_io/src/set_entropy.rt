@@ -5,6 +5,7 @@ ghost use Rattle.sz_io.specs.Plan.{first_plan, FailsNext, after_call};
 
 use crate::Entropy;
 use crate::plan::FaultPlan;
+use crate::rest::Rest;
 use std::alloc::Global;
 use std::marker::Model;
 use sz_base::{Bytes, Calls, Failed};
@@ -13,20 +14,16 @@ use sz_base::{Bytes, Calls, Failed};
 /// told to and where too few bytes are left.
 #[derive(Debug, Drop)]
 pub struct SetEntropy {
-    bytes: Bytes,
-    given: usize,
+    bytes: Rest<u8>,
     plan: FaultPlan,
 }
 
 impl Model for SetEntropy {
-    ghost use Rattle.std.specs.Prelude.{◌≤◌, length, drop};
     ghost use Rattle.sz_io.specs.Memory.{EntropyState};
 
     ghost Value = { EntropyState };
 
-    ghost view = { λ source. record { bytes = drop source.given source.bytes; plan = source.plan } };
-
-    ghost invariant = { λ source. source.given ≤ length source.bytes };
+    ghost view = { λ source. record { bytes = source.bytes; plan = source.plan } };
 }
 
 impl SetEntropy {
@@ -36,8 +33,7 @@ impl SetEntropy {
         ensures plan { result.plan ≡ first_plan fail }
     {
         SetEntropy {
-            bytes,
-            given: 0,
+            bytes: Rest::of(bytes),
             plan: FaultPlan::create(fail),
         }
     }
@@ -56,12 +52,12 @@ impl Entropy for SetEntropy {
         ensures fails { IsErr result ↔ (FailsNext self.old.plan ⊎ (length self.old.bytes < length into.old)) }
         ensures counted { self.new.plan ≡ after_call self.old.plan (is_err result) }
     {
-        let rest = &self.bytes.as_slice()[self.given..];
+        let rest = self.bytes.as_slice();
         if self.plan.next_fails_or(rest.len() < into.len()) {
             return Err(Failed);
         }
         into.copy_from_slice(&rest[..into.len()]);
-        self.given += into.len();
+        self.bytes.skip(into.len());
         Ok(())
     }
 }

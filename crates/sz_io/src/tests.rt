@@ -69,10 +69,11 @@ fn length_of(found: Found) -> Option<u64> {
 struct Strict {
     said: u64,
     has: u64,
+    faults: u64,
 }
 
 impl Folder for Strict {
-    ghost faults = { λ _. 0 };
+    ghost faults = { λ folder. folder.faults };
 
     ghost files = { λ _. None };
 
@@ -82,6 +83,7 @@ impl Folder for Strict {
 
     fn read_at(&mut self, _path: &Text, at: u64, into: &mut [u8]) -> Result<usize, Failed> {
         if into.len() as u64 > self.said.saturating_sub(at) {
+            self.faults = self.faults.saturating_add(1);
             return Err(Failed);
         }
         Ok(into.len().min(self.has.saturating_sub(at) as usize))
@@ -138,85 +140,118 @@ fn a_file_is_asked_for_the_bytes_that_it_is_said_to_have(rt: HostRuntime) -> Res
         (10, 99, 10),
         (70_000, 70_000, 70_000),
     ] {
-        let mut folder = Strict { said, has };
+        let mut folder = Strict {
+            said,
+            has,
+            faults: 0,
+        };
         let found = read_whole(rt.alloc(), &mut folder, &path, 70_000)?;
         assert_eq!(rt; length_of(found), Some(read));
     }
     Ok(())
 }
 
-// Receives into a buffer of this size, and compares what came.
-fn receives<N: Net>(rt: &impl Abort, net: &mut N, room: usize, bytes: &[u8]) -> Result<(), Failed> {
-    let mut into = [0u8; 8];
-    let count = net.receive(&mut into[..room.min(8)])?;
-    assert_eq!(rt; into[..count.min(8)], *bytes);
-    Ok(())
+// A call of a network or a listener: at a port, with these bytes to send, into a buffer of this size with
+// these bytes to come.
+#[derive(Clone, Copy)]
+enum Step {
+    Open(u16),
+    Send(&'static [u8]),
+    Receive(usize, &'static [u8]),
+    Close,
 }
 
-// The fourth call is a receive on the first connection.
+// Makes the call, and says whether it succeeded.
+fn ask<N: Net>(rt: &impl Abort, alloc: Global, net: &mut N, step: Step) -> Result<bool, BaseFault> {
+    let mut into = [0u8; 8];
+    Ok(match step {
+        Step::Open(port) => net.connect(&at_port(alloc, port)?).is_ok(),
+        Step::Send(bytes) => net.send(bytes).is_ok(),
+        Step::Receive(room, bytes) => match net.receive(&mut into[..room.min(8)]) {
+            Ok(count) => {
+                assert_eq!(rt; &into[..count], bytes);
+                true
+            }
+            Err(Failed) => false,
+        },
+        Step::Close => {
+            net.close();
+            true
+        }
+    })
+}
+
+// The fourth call fails.
 #[test]
 fn a_network_keeps_what_went_over_it(rt: HostRuntime) -> Result<(), Fail> {
     let alloc = rt.alloc();
-    let answers = [
-        (b"one".as_slice(), true),
-        (b"two".as_slice(), false),
-        (b"".as_slice(), true),
-        (b"four".as_slice(), true),
+    let answers: [(&[u8], bool); 4] = [
+        (b"one", true),
+        (b"two", false),
+        (b"", true),
+        (b"four", true),
     ];
     let mut net = ScriptNet::create(alloc, scripts(alloc, &answers)?, calls(alloc, &[4])?);
-    net.connect(&at_port(alloc, 1)?)?;
-    net.send(b"GET")?;
-    receives(&rt, &mut net, 2, b"on")?;
-    assert_eq!(rt; net.receive(&mut [0u8; 8]), Err(Failed));
-    receives(&rt, &mut net, 8, b"e")?;
-    net.connect(&at_port(alloc, 2)?)?;
-    receives(&rt, &mut net, 8, b"two")?;
-    assert_eq!(rt; net.receive(&mut [0u8; 8]), Err(Failed));
-    net.close();
-    assert_eq!(rt; net.send(b"more"), Err(PutFault::Failed));
-    net.connect(&at_port(alloc, 3)?)?;
-    receives(&rt, &mut net, 8, b"")?;
-    net.connect(&at_port(alloc, 4)?)?;
-    assert_eq!(rt; net.connect(&at_port(alloc, 5)?), Err(PutFault::Failed));
-    let exchanges = [
-        (1, b"GET".as_slice(), b"one".as_slice(), ExchangeEnd::Lost),
-        (2, b"".as_slice(), b"two".as_slice(), ExchangeEnd::Lost),
-        (3, b"".as_slice(), b"".as_slice(), ExchangeEnd::Closed),
-        (4, b"".as_slice(), b"".as_slice(), ExchangeEnd::Left),
-        (5, b"".as_slice(), b"".as_slice(), ExchangeEnd::Lost),
+    let steps = [
+        (Step::Open(1), true),
+        (Step::Send(b"GET"), true),
+        (Step::Receive(2, b"on"), true),
+        (Step::Receive(8, b""), false),
+        (Step::Receive(8, b"e"), true),
+        (Step::Open(2), true),
+        (Step::Receive(8, b"two"), true),
+        (Step::Receive(8, b""), false),
+        (Step::Close, true),
+        (Step::Send(b"more"), false),
+        (Step::Open(3), true),
+        (Step::Receive(8, b""), true),
+        (Step::Open(4), true),
+        (Step::Open(5), false),
+    ];
+    for (step, succeeds) in steps {
+        assert_eq!(rt; ask(&rt, alloc, &mut net, step)?, succeeds);
+    }
+    let exchanges: [(u16, &[u8], &[u8], ExchangeEnd); 5] = [
+        (1, b"GET", b"one", ExchangeEnd::Lost),
+        (2, b"", b"two", ExchangeEnd::Lost),
+        (3, b"", b"", ExchangeEnd::Closed),
+        (4, b"", b"", ExchangeEnd::Left),
+        (5, b"", b"", ExchangeEnd::Lost),
     ];
     assert_eq!(rt; net.past().len(), exchanges.len());
-    for (exchange, (port, sent, received, end)) in net.past().iter().zip(exchanges.iter()) {
-        assert_eq!(rt; exchange.target.port, *port);
-        assert_eq!(rt; exchange.sent.as_slice(), *sent);
-        assert_eq!(rt; exchange.received.as_slice(), *received);
-        assert_eq!(rt; exchange.end, *end);
+    for (exchange, (port, sent, received, end)) in net.past().iter().zip(exchanges) {
+        assert_eq!(rt; exchange.target.port, port);
+        assert_eq!(rt; exchange.sent.as_slice(), sent);
+        assert_eq!(rt; exchange.received.as_slice(), received);
+        assert_eq!(rt; exchange.end, end);
     }
     Ok(())
 }
 
-// The fifth call is a send on the second connection.
+// The fifth call, a send on the second connection, fails.
 #[test]
 fn a_listener_keeps_what_was_sent_on_each_connection(rt: HostRuntime) -> Result<(), Fail> {
     let alloc = rt.alloc();
-    let connections = [(b"one".as_slice(), true), (b"two".as_slice(), false)];
-    let scripts = scripts(alloc, &connections)?;
+    let scripts = scripts(alloc, &[(b"one", true), (b"two", false)])?;
     let mut listener = ScriptListener::create(alloc, scripts, calls(alloc, &[5])?);
-    let mut into = [0u8; 8];
     listener.listen(&at_port(alloc, 1)?)?;
     listener.accept()?;
     listener.send(b"first")?;
     listener.accept()?;
     assert_eq!(rt; listener.send(b"second"), Err(PutFault::Failed));
     listener.send(b"third")?;
+    let mut into = [0u8; 4];
     assert_eq!(rt; listener.receive(&mut into), Ok(3));
-    assert_eq!(rt; into, *b"two\0\0\0\0\0");
+    assert_eq!(rt; into, *b"two\0");
     assert_eq!(rt; listener.receive(&mut into), Err(Failed));
     assert_eq!(rt; listener.accept(), Err(Failed));
     listener.close();
-    assert_eq!(rt; listener.sent(0), Some(b"first".as_slice()));
-    assert_eq!(rt; listener.sent(1), Some(b"third".as_slice()));
-    assert_eq!(rt; listener.sent(2), None);
+    for (place, sent) in [Some(b"first".as_slice()), Some(b"third"), None]
+        .into_iter()
+        .enumerate()
+    {
+        assert_eq!(rt; listener.sent(place), sent);
+    }
     Ok(())
 }
 
