@@ -1,2 +1,4 @@
 pub mod Pairs
 pub mod Fronts
+pub mod Rests
+pub mod Exchanges

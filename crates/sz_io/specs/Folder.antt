@@ -1,8 +1,9 @@
 -- The files of a folder, as contracts see them.
-use Rattle.std.specs.Prelude.{◌≡◌, ◌≢◌, ℕ, List, [], Option, None, unwrap_or, MatchOption, IsSomeAnd}
+use Rattle.std.specs.Prelude.{◌≡◌, ◌≢◌, ℕ, List, [], Option, unwrap_or}
 use Rattle.std.specs.Ordering.{nat_cmp}
 use Rattle.std.specs.Cmp.Lexicographic.{slice_cmp}
 use Rattle.std.specs.FinMap.{FinMap, find, get, insert, from_entries}
+use Rattle.sz_spec.specs.Told.{WhereTold}
 
 -- each file's bytes under its path
 abbrev pub FileMap : Type 0
@@ -30,5 +31,4 @@ with_file path bytes files = insert files path bytes
 
 -- where the files are told, they still are, and each other path has what it had
 abbrev pub ChangesOnly : List ℕ → Option FileMap → Option FileMap → Type 0
-ChangesOnly path before now = MatchOption before (now ≡ None) (λ old. IsSomeAnd now (λ new.
-    (other : List ℕ) → other ≢ path → bytes_at new other ≡ bytes_at old other))
+ChangesOnly path = WhereTold (λ old new. (other : List ℕ) → other ≢ path → bytes_at new other ≡ bytes_at old other)
