@@ -7,3 +7,4 @@ pub mod Laws
 pub mod Medium
 pub mod Memory
 pub mod Plan
+pub mod Room

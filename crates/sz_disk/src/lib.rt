@@ -12,10 +12,12 @@ mod event;
 mod medium;
 mod memory;
 mod plan;
+mod room;
 
 pub use disk::Disk;
 pub use disks::Disks;
 pub use memory::MemoryDisk;
+pub use room::Room;
 
 #[cfg(test)]
 mod tests;
