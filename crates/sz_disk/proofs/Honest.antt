@@ -3,7 +3,7 @@ use Rattle.std.proofs.Common.{◌≡◌, ◌⊎◌, ℕ, ◌+◌, ◌≤◌, Boo
 use Rattle.sz_disk.specs.Image.{part, patched}
 use Rattle.sz_disk.specs.Disk.{Seen, IsStill, IsQuiet, IsSynced, WroteIn}
 use Rattle.sz_disk.specs.Event.{seen_after}
-use Rattle.sz_disk.specs.Memory.{Memory, seen_of, IsWritten, RecordsSync, Reads, Writes, Syncs}
+use Rattle.sz_disk.specs.Memory.{Memory, seen_of, IsWritten, RecordsSync, ReadsBy, WritesBy, SyncsBy}
 use Rattle.sz_disk.proofs.Crashes.{tears-write, synced-push}
 use Rattle.sz_disk.proofs.Moments.{quiet-wrote}
 use Rattle.sz_disk.proofs.Parts.{ChangedIn-patched}
@@ -43,13 +43,13 @@ same-quiet old new same =
     seen-is P old.bytes old.events new same.bytes same.events (quiet-same old.bytes old.events old.faults new.faults)
 
 -- a read changes nothing
-pub read-same : (fate : Fate) (at : ℕ) (given : List ℕ) (old new : Memory) (refused : Bool) → Reads fate at given old new refused → IsSame old new
+pub read-same : (fate : Fate) (at : ℕ) (given : List ℕ) (old new : Memory) (refused : Bool) → ReadsBy fate at given old new refused → IsSame old new
 read-same Runs at given old new refused h = record { bytes = h.1.bytes; events = h.1.events }
 read-same AtCut at given old new refused h = record { bytes = h.1.bytes; events = h.1.events }
 read-same Refused at given old new refused h = record { bytes = h.1.bytes; events = h.1.events }
 
 -- a write is done or changes nothing
-pub written_or_same : (fate : Fate) (at : ℕ) (given : List ℕ) (old new : Memory) (refused : Bool) → Writes fate at given old new refused → IsWritten at given old new ⊎ IsSame old new
+pub written_or_same : (fate : Fate) (at : ℕ) (given : List ℕ) (old new : Memory) (refused : Bool) → WritesBy fate at given old new refused → IsWritten at given old new ⊎ IsSame old new
 written_or_same Runs at given old new true h = inr (record { bytes = h.bytes; events = h.events })
 written_or_same Runs at given old new false h = inl h
 written_or_same AtCut at given old new refused h =
@@ -67,14 +67,14 @@ write-wrote at given old new room =
     (λ s. quiet-wrote at (length given) (seen_of old) (seen_of new) (same-quiet old new s))
 
 -- a sync is done or changes nothing
-pub synced_or_same : (fate : Fate) (old new : Memory) (refused : Bool) → Syncs fate old new refused → RecordsSync old new ⊎ IsSame old new
+pub synced_or_same : (fate : Fate) (old new : Memory) (refused : Bool) → SyncsBy fate old new refused → RecordsSync old new ⊎ IsSame old new
 synced_or_same Runs old new true h = inr (record { bytes = h.bytes; events = h.events })
 synced_or_same Runs old new false h = inl h
 synced_or_same AtCut old new refused h = inr (record { bytes = h.1.bytes; events = h.1.events })
 synced_or_same Refused old new refused h = inr (record { bytes = h.1.bytes; events = h.1.events })
 
 -- one that is not refused is done
-synced-ok : (fate : Fate) (old new : Memory) → Syncs fate old new false → RecordsSync old new
+synced-ok : (fate : Fate) (old new : Memory) → SyncsBy fate old new false → RecordsSync old new
 synced-ok Runs old new h = h
 synced-ok AtCut old new h = absurd (cc h.0)
 synced-ok Refused old new h = absurd (cc h.0)
@@ -87,6 +87,6 @@ sync-synced old new w =
 pub sync-still : (old new : Memory) → RecordsSync old new ⊎ IsSame old new → IsStill (seen_of old) (seen_of new)
 sync-still old new = ⊎_elim (λ w. (sync-synced old new w).quiet.still) (λ s. (same-quiet old new s).still)
 
-pub sync-ok : {T E : Type 0} (result : Result T E) (fate : Fate) (old new : Memory) → Syncs fate old new (is_err result) → OnOk result (IsSynced (seen_of old) (seen_of new))
+pub sync-ok : {T E : Type 0} (result : Result T E) (fate : Fate) (old new : Memory) → SyncsBy fate old new (is_err result) → OnOk result (IsSynced (seen_of old) (seen_of new))
 sync-ok (Ok v) fate old new h = sync-synced old new (synced-ok fate old new h)
 sync-ok (Err e) fate old new h = tt

@@ -4,7 +4,7 @@ use Rattle.sz_spec.specs.Cause.{last_count}
 use Rattle.sz_disk.specs.Image.{part, patched}
 use Rattle.sz_disk.specs.Disk.{Seen}
 use Rattle.sz_disk.specs.Event.{seen_after}
-use Rattle.sz_disk.specs.Plan.{counted}
+use Rattle.sz_disk.specs.Plan.{counted, HasFate}
 use Rattle.sz_disk.specs.declared.event.Event.{Event}
 use Rattle.sz_disk.specs.declared.event.Event.TheVariants.{Wrote, Synced}
 use Rattle.sz_disk.specs.declared.plan.Plan.{Plan}
@@ -94,19 +94,29 @@ abbrev pub IsMarked : Memory → Memory → Bool → Type 0
 IsMarked old new kept = MatchBool kept (RecordsSync old new) (IsShort old new)
 
 -- A read, by the call's fate.
-abbrev pub Reads : Fate → ℕ → List ℕ → Memory → Memory → Bool → Type 0
-Reads Runs at given old new refused = (refused ≡ false) × IsUntouched old new × (given ≡ part old.bytes at (length given))
-Reads AtCut at given old new refused = (refused ≡ true) × IsUntouched old new
-Reads Refused at given old new refused = (refused ≡ true) × IsUntouched old new
+abbrev pub ReadsBy : Fate → ℕ → List ℕ → Memory → Memory → Bool → Type 0
+ReadsBy Runs at given old new refused = (refused ≡ false) × IsUntouched old new × (given ≡ part old.bytes at (length given))
+ReadsBy AtCut at given old new refused = (refused ≡ true) × IsUntouched old new
+ReadsBy Refused at given old new refused = (refused ≡ true) × IsUntouched old new
 
 -- A write, by the call's fate. One at which the cut falls is refused, and counts as written.
-abbrev pub Writes : Fate → ℕ → List ℕ → Memory → Memory → Bool → Type 0
-Writes Runs at bytes old new refused = MatchBool refused (IsShort old new) (IsWritten at bytes old new)
-Writes AtCut at bytes old new refused = (refused ≡ true) × (IsWritten at bytes old new ⊎ IsShort old new)
-Writes Refused at bytes old new refused = (refused ≡ true) × IsUntouched old new
+abbrev pub WritesBy : Fate → ℕ → List ℕ → Memory → Memory → Bool → Type 0
+WritesBy Runs at bytes old new refused = MatchBool refused (IsShort old new) (IsWritten at bytes old new)
+WritesBy AtCut at bytes old new refused = (refused ≡ true) × (IsWritten at bytes old new ⊎ IsShort old new)
+WritesBy Refused at bytes old new refused = (refused ≡ true) × IsUntouched old new
 
 -- A sync, by the call's fate.
-abbrev pub Syncs : Fate → Memory → Memory → Bool → Type 0
-Syncs Runs old new refused = MatchBool refused (IsShort old new) (RecordsSync old new)
-Syncs AtCut old new refused = (refused ≡ true) × IsUntouched old new
-Syncs Refused old new refused = (refused ≡ true) × IsUntouched old new
+abbrev pub SyncsBy : Fate → Memory → Memory → Bool → Type 0
+SyncsBy Runs old new refused = MatchBool refused (IsShort old new) (RecordsSync old new)
+SyncsBy AtCut old new refused = (refused ≡ true) × IsUntouched old new
+SyncsBy Refused old new refused = (refused ≡ true) × IsUntouched old new
+
+-- Each by the fate that its call's number has in the plan.
+abbrev pub Reads : ℕ → List ℕ → Memory → Memory → Bool → Type 0
+Reads at given old new refused = (fate : Fate) × HasFate old.plan fate × ReadsBy fate at given old new refused
+
+abbrev pub Writes : ℕ → List ℕ → Memory → Memory → Bool → Type 0
+Writes at bytes old new refused = (fate : Fate) × HasFate old.plan fate × WritesBy fate at bytes old new refused
+
+abbrev pub Syncs : Memory → Memory → Bool → Type 0
+Syncs old new refused = (fate : Fate) × HasFate old.plan fate × SyncsBy fate old new refused

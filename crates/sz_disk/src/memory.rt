@@ -7,7 +7,7 @@ ghost use Rattle.sz_disk.specs.Image.{patched};
 ghost use Rattle.sz_disk.specs.Disk.{ReadsPart, IsQuiet, IsSynced, IsStill, WroteIn};
 ghost use Rattle.sz_disk.specs.Event.{Leaves, unsynced, undone};
 ghost use Rattle.sz_disk.specs.Laws.{lawful_after};
-ghost use Rattle.sz_disk.specs.Plan.{fate_of, choice_of, with_failing, with_cut};
+ghost use Rattle.sz_disk.specs.Plan.{choice_of, with_failing, NamesCut};
 ghost use Rattle.sz_disk.specs.Choice.{IsPicked};
 ghost use Rattle.sz_disk.specs.Memory.{view, seen_of, blank, powered_up, with_plan, counted_faults, IsCounted, Reads, Writes, Syncs, IsKept, IsMarked, IsUntouched};
 
@@ -51,8 +51,9 @@ impl MemoryDisk {
     /// Stops the disk at a call: that call and all later ones fail. `choice` picks what is left of it when it
     /// is powered up. A cut that was reached stays.
     pub fn cut_at(&mut self, call: u64, choice: u64)
-        ensures { view self.new ≡ with_plan (view self.old)
-            (with_cut (view self.old).plan (record { call = call; choice = choice })) }
+        ensures named { NamesCut (record { call = call; choice = choice })
+            (view self.old).plan (view self.new).plan }
+        ensures kept { view self.new ≡ with_plan (view self.old) (view self.new).plan }
     {
         self.plan.cut_at(Cut { call, choice });
     }
@@ -132,8 +133,7 @@ impl MemoryDisk {
     /// A read, by the call's fate.
     fn read_next(&mut self, at: usize, into: &mut [u8]) -> Result<(), Failed>
         requires { at + length into.old ≤ length (view self.old).bytes }
-        ensures read { Reads (fate_of (view self.old).plan) at into.new
-            (view self.old) (view self.new) (is_err result) }
+        ensures read { Reads at into.new (view self.old) (view self.new) (is_err result) }
         ensures counted { IsCounted (view self.old) (view self.new) (is_err result) }
         ensures cause { HasCause (view self.old).faults (view self.new).faults (is_err result) }
     {
@@ -150,8 +150,7 @@ impl MemoryDisk {
     /// A write, by the call's fate.
     fn write_next(&mut self, at: usize, bytes: &[u8]) -> Result<(), Failed>
         requires { at + length bytes.now ≤ length (view self.old).bytes }
-        ensures written { Writes (fate_of (view self.old).plan) at bytes.now
-            (view self.old) (view self.new) (is_err result) }
+        ensures written { Writes at bytes.now (view self.old) (view self.new) (is_err result) }
         ensures counted { IsCounted (view self.old) (view self.new) (is_err result) }
         ensures cause { HasCause (view self.old).faults (view self.new).faults (is_err result) }
     {
@@ -168,8 +167,7 @@ impl MemoryDisk {
 
     /// A sync, by the call's fate.
     fn sync_next(&mut self) -> Result<(), Failed>
-        ensures synced { Syncs (fate_of (view self.old).plan)
-            (view self.old) (view self.new) (is_err result) }
+        ensures synced { Syncs (view self.old) (view self.new) (is_err result) }
         ensures counted { IsCounted (view self.old) (view self.new) (is_err result) }
         ensures cause { HasCause (view self.old).faults (view self.new).faults (is_err result) }
     {
@@ -198,8 +196,7 @@ impl Disk for MemoryDisk {
         ensures cause { HasCause (view self.old).faults (view self.new).faults (is_err result) }
 
         // It fails exactly where the plan says so.
-        ensures exact { Reads (fate_of (view self.old).plan) at into.new
-            (view self.old) (view self.new) (is_err result) }
+        ensures exact { Reads at into.new (view self.old) (view self.new) (is_err result) }
         ensures counted { IsCounted (view self.old) (view self.new) (is_err result) }
     {
         self.read_next(at as usize, into)
@@ -213,8 +210,7 @@ impl Disk for MemoryDisk {
         ensures cause { HasCause (view self.old).faults (view self.new).faults (is_err result) }
 
         // It fails exactly where the plan says so, or where its record finds no memory.
-        ensures exact { Writes (fate_of (view self.old).plan) at bytes.now
-            (view self.old) (view self.new) (is_err result) }
+        ensures exact { Writes at bytes.now (view self.old) (view self.new) (is_err result) }
         ensures counted { IsCounted (view self.old) (view self.new) (is_err result) }
     {
         self.write_next(at as usize, bytes)
@@ -226,8 +222,7 @@ impl Disk for MemoryDisk {
         ensures cause { HasCause (view self.old).faults (view self.new).faults (is_err result) }
 
         // It fails exactly where the plan says so, or where its record finds no memory.
-        ensures exact { Syncs (fate_of (view self.old).plan)
-            (view self.old) (view self.new) (is_err result) }
+        ensures exact { Syncs (view self.old) (view self.new) (is_err result) }
         ensures counted { IsCounted (view self.old) (view self.new) (is_err result) }
     {
         self.sync_next()
