@@ -6,7 +6,7 @@ use Rattle.sz_disk.specs.Choice.{IsFirst, IsFirstFound}
 use Rattle.sz_disk.specs.declared.event.Event.{Event}
 use Rattle.sz_disk.specs.declared.event.Event.TheVariants.{Wrote, Synced}
 
-or-false : (a b : Bool) → (a || b) ≡ false → (a ≡ false) × (b ≡ false)
+pub or-false : (a b : Bool) → (a || b) ≡ false → (a ≡ false) × (b ≡ false)
 or-false true b h = (h, absurd (cc))
 or-false false b h = (refl, h)
 

@@ -1,11 +1,14 @@
 -- The byte that a choice picks.
 use Rattle.std.proofs.Common.{◌≡◌, ◌≢◌, ◌⊎◌, ℕ, zero, suc, ◌+◌, ◌-◌, ◌*◌, ◌%◌, ◌<◌, ◌≤◌, Bool, true, false, cond, List, length, set, get_or, add-zero, add-suc, add-one, arith, sym, ap, ◌∙◌, inl, inr, ⊎_elim}
 use Rattle.std.proofs.lemmas.Bool.{cases_lt, false≢true}
-use Rattle.std.proofs.lemmas.List.{length-set, get_or-set_same, get_or-set_other}
+use Rattle.std.proofs.lemmas.List.{length-set, get_or-set_same, get_or-set_other, get_or_default}
 use Rattle.std.proofs.lemmas.Nat.{mul-mod}
 use Rattle.std.proofs.Math.Nat.{mod-add-mod, add-mod-mod}
 use Rattle.std.proofs.lemmas.Bool.Decides.{nat_tests}
-use Rattle.sz_disk.specs.Event.{is_covered, written_over}
+use Rattle.sz_disk.specs.Event.{is_covered, undone, written_over}
+use Rattle.sz_disk.specs.Laws.{length-undone}
+use Rattle.sz_disk.specs.Medium.{EachFits}
+use Rattle.sz_disk.proofs.Undone.{get_or-undone}
 use Rattle.sz_disk.specs.Choice.{rank, picked_byte, IsFirst, IsPicked}
 use Rattle.sz_disk.specs.declared.event.Event.{Event}
 
@@ -95,6 +98,29 @@ picked-step choice events from count start bytes found byte so is e =
           (below_or k place (omega arith));
       rest = λ k h. get_or-set_other bytes place k byte 0 (λ eq. absurd (omega arith)) ∙ so.rest k (omega arith);
     }
+
+-- a place that is not covered is passed
+pub picked-skip : (choice : ℕ) (events : List Event) (from count : ℕ) (start bytes : List ℕ) → PickedSoFar choice events from count start bytes → from < length bytes → is_covered events from ≡ false → PickedSoFar choice events (from + 1) count start bytes
+picked-skip choice events from count start bytes so lt free = record {
+  within = omega (arith, lt);
+  size = so.size;
+  counted = so.counted ∙ sym (rank-past events from 1 (λ k a b. let e : k ≡ from = omega (arith, a, b) in ap (is_covered events) e ∙ free));
+  kept = so.kept;
+  taken = λ k less h. ⊎_elim (λ below. so.taken k below h) (λ e. absurd (false≢true (sym free ∙ sym (ap (is_covered events) e) ∙ h))) (below_or k from (omega (arith, less)));
+  rest = λ k h. so.rest k (omega (arith, h));
+}
+
+-- a place that is covered is picked, over the bytes of the last sync
+pub picked-here : (choice : ℕ) (events : List Event) (from count : ℕ) (start bytes old : List ℕ) (was byte : ℕ) → EachFits (length start) events → PickedSoFar choice events from count start bytes → from < length start → is_covered events from ≡ true → old ≡ undone events start → was ≡ get_or old from was → byte ≡ picked_byte choice count was (get_or bytes from 0) → PickedSoFar choice events (from + 1) (count + 1) start (set bytes from byte)
+picked-here choice events from count start bytes old was byte fits so lt covered is read e =
+    let long : from < length old = omega (arith, lt, ap length is, length-undone events start fits) in
+    picked-step choice events from count start bytes (from, was) byte so (record {
+      after = omega arith;
+      within = omega (arith, lt, so.size);
+      covered = covered;
+      none_before = λ k a b. absurd (omega (arith, a, b));
+      old = read ∙ get_or_default old from was 0 long ∙ ap (λ (s : List ℕ). get_or s from 0) is ∙ get_or-undone events start fits from covered;
+    }) e
 
 -- no covered place is left
 pub picked-all : (choice : ℕ) (events : List Event) (from count : ℕ) (start bytes : List ℕ) → PickedSoFar choice events from count start bytes → ((k : ℕ) → from ≤ k → k < length bytes → is_covered events k ≡ false) → IsPicked choice events (written_over events) start bytes

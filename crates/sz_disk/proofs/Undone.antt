@@ -7,6 +7,7 @@ use Rattle.sz_disk.specs.Laws.{length-undone}
 use Rattle.sz_disk.proofs.Parts.{ChangedIn-patched, get_or-outside, get_or-patched}
 use Rattle.sz_disk.specs.Image.{patched}
 use Rattle.sz_disk.specs.Event.{joined, unsynced, covers, is_covered, undone, written_over}
+use Rattle.sz_disk.proofs.Covered.{or-false}
 use Rattle.sz_disk.specs.Medium.{end_of, EachFits}
 use Rattle.sz_disk.specs.Choice.{rank, picked_byte, IsPicked}
 use Rattle.sz_disk.specs.declared.event.Event.{Event}
@@ -38,12 +39,42 @@ get_or-undone (Wrote at old ∷ es) bytes fits k h =
     undone-test (covers k (Wrote at old)) at old (undone es bytes) es k (omega arith) (get_or-undone es bytes tail k) refl h
 get_or-undone (Synced ∷ es) bytes fits k h = get_or-undone es bytes (All-tail (λ e. end_of e ≤ length bytes) Synced es fits) k h
 
+undone-free : (b : Bool) (at : ℕ) (old rest : List ℕ) (k : ℕ) → at + length old ≤ length rest → covers k (Wrote at old) ≡ b → b ≡ false → get_or (patched at old rest) k 0 ≡ get_or rest k 0
+undone-free b at old rest k room is free =
+    get_or-outside at (length old) rest (patched at old rest) (ChangedIn-patched at old rest room) k (covers-outside at k (length old) (is ∙ free))
+
+-- a byte that none of them covers stays
+pub get_or-undone_free : (events : List Event) (bytes : List ℕ) → EachFits (length bytes) events → (k : ℕ) → is_covered events k ≡ false → get_or (undone events bytes) k 0 ≡ get_or bytes k 0
+get_or-undone_free [] bytes fits k h = refl
+get_or-undone_free (Wrote at old ∷ es) bytes fits k h =
+    let tail = All-tail (λ e. end_of e ≤ length bytes) (Wrote at old) es fits in
+    let head = All-head (λ e. end_of e ≤ length bytes) (Wrote at old) es fits in
+    let size = length-undone es bytes tail in
+    let both = or-false (covers k (Wrote at old)) (is_covered es k) h in
+    undone-free (covers k (Wrote at old)) at old (undone es bytes) k (omega arith) refl both.0 ∙ get_or-undone_free es bytes tail k both.1
+get_or-undone_free (Synced ∷ es) bytes fits k h = get_or-undone_free es bytes (All-tail (λ e. end_of e ≤ length bytes) Synced es fits) k h
+
+-- choice 0 leaves the bytes of before these writes
+pub picked-undone : (events : List Event) (bytes : List ℕ) → EachFits (length bytes) events → IsPicked 0 events (written_over events) bytes (undone events bytes)
+picked-undone events bytes fits = record {
+  size = length-undone events bytes fits;
+  kept = λ k h. get_or-undone_free events bytes fits k h;
+  taken = λ k lt h. get_or-undone events bytes fits k h;
+}
+
 unsynced-fits : (n : ℕ) (events pending : List Event) → EachFits n pending → EachFits n events → EachFits n (fold joined pending events)
 unsynced-fits n [] pending so fits = so
 unsynced-fits n (Wrote at old ∷ es) pending so fits =
     unsynced-fits n es (pending ++ Wrote at old ∷ []) (All-push (λ e. end_of e ≤ n) pending (Wrote at old) so (All-head (λ e. end_of e ≤ n) (Wrote at old) es fits)) (All-tail (λ e. end_of e ≤ n) (Wrote at old) es fits)
 unsynced-fits n (Synced ∷ es) pending so fits =
     unsynced-fits n es [] (All-nil (λ e. end_of e ≤ n)) (All-tail (λ e. end_of e ≤ n) Synced es fits)
+
+-- so do the writes since the last sync
+pub pending-fits : (n m : ℕ) (events pending : List Event) → EachFits n events → pending ≡ unsynced events → m ≡ n → EachFits m pending
+pending-fits n m events pending fits is same =
+    let P : ℕ → Type 0 = λ k. EachFits k pending in
+    let Q : List Event → Type 0 = λ s. EachFits n s in
+    subst P (sym same) (subst Q (sym is) (unsynced-fits n events [] (All-nil (λ e. end_of e ≤ n)) fits))
 
 -- what was picked over the bytes that the writes wrote over is picked over those of the last sync
 pub picked-settled : (choice : ℕ) (events pending : List Event) (bytes new image : List ℕ) → EachFits (length bytes) events → pending ≡ unsynced events → image ≡ new → IsPicked choice pending (written_over pending) bytes new → IsPicked choice (unsynced events) (λ k. get_or (undone (unsynced events) bytes) k 0) bytes image

@@ -83,7 +83,7 @@ impl MemoryDisk {
     {
         let mut disk = self;
         let choice = disk.plan.choice();
-        disk.medium.settle(choice);
+        disk.medium.settle(disk.alloc, choice);
         disk.plan = Plan::create(disk.alloc);
         disk
     }
