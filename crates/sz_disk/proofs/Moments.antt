@@ -1,8 +1,8 @@
 -- The disk rule over several calls: how the words on calls compose, and what follows for a crash at any moment.
-use Rattle.std.proofs.Common.{◌≡◌, ◌⊎◌, ◌↔◌, ℕ, ◌+◌, ◌≤◌, List, [], ◌∷◌, ◌++◌, length, Option, Some, None, is_some, refl, sym, ap, subst, ◌∙◌, inl, inr, ⊎_elim, arith}
+use Rattle.std.proofs.Common.{◌≡◌, ◌⊎◌, ◌↔◌, ℕ, ◌+◌, ◌≤◌, List, [], ◌∷◌, ◌++◌, length, Option, Some, None, is_some, refl, sym, subst, ◌∙◌, inl, inr, ⊎_elim, arith}
 use Rattle.std.proofs.lemmas.Option.{same_Some}
 use Rattle.sz_disk.specs.Image.{ChangedIn, ChangedInEach, LeftBy, TornFrom, IsSpared, IsSparedByAll}
-use Rattle.sz_disk.specs.Disk.{Seen, IsLawful, ReadsChangedIn, IsSettled, IsStill, IsQuiet, IsSynced, Tears, TornIn, WroteIn, LeavesOnly}
+use Rattle.sz_disk.specs.Disk.{Seen, IsLawful, ReadsChangedIn, IsSettled, IsStill, IsQuiet, Tears, TornIn, WroteIn, LeavesOnly}
 use Rattle.sz_disk.proofs.Parts.{ChangedIn-refl, ChangedIn-trans, ChangedIn-wider, ChangedInEach-refl, ChangedInEach-append, ChangedInEach-more, ChangedInEach-one}
 
 -- what a crash now may leave is as long as the disk
@@ -33,9 +33,9 @@ still-still first middle last a b = record {
 pub quiet-quiet : (first middle last : Seen) → IsQuiet first middle → IsQuiet middle last → IsQuiet first last
 quiet-quiet first middle last a b = record { still = still-still first middle last a.still b.still; reads = b.reads ∙ a.reads }
 
--- no call at all
-pub quiet-none : (disk : Seen) → IsQuiet disk disk
-quiet-none disk = record {
+-- a call that changed nothing, though it may have counted a fault
+pub quiet-faults : (disk : Seen) (faults : ℕ) → IsQuiet disk (record disk { faults = faults })
+quiet-faults disk faults = record {
   still = record {
     size = refl;
     told = refl;
@@ -45,6 +45,10 @@ quiet-none disk = record {
   };
   reads = refl;
 }
+
+-- no call at all
+pub quiet-none : (disk : Seen) → IsQuiet disk disk
+quiet-none disk = quiet-faults disk disk.faults
 
 -- a settled disk stays so while nothing is written
 pub settled-quiet : (old new : Seen) → IsSettled old → IsQuiet old new → IsSettled new
@@ -62,9 +66,11 @@ still-tears R same old new still = record {
 }
 
 -- calls by R, and then calls by S, are calls by T where R is T and R and then S is T
-pub tears-both : (R S T : List ℕ → List ℕ → Type 0) → ((x y : List ℕ) → R x y → T x y) → ((x y z : List ℕ) → R x y → S y z → T x z) → (first middle last : Seen) → Tears R first middle → Tears S middle last → Tears T first last
+pub tears-both : (R S T : List ℕ → List ℕ → Type 0) → ((x y : List ℕ) → R x y → T x y) → ((x y z : List ℕ) → R x y → S y z → T x z) → (first middle last : Seen)
+    → Tears R first middle → Tears S middle last → Tears T first last
 tears-both R S T one both first middle last a b =
-    let then : (image : List ℕ) → LeftBy S middle.leaves image → LeftBy T first.leaves image = λ image left. let from = a.crash left.0 left.1 in (from.0, from.1, both from.0 left.0 image from.2 left.2) in
+    let then : (image : List ℕ) → LeftBy S middle.leaves image → LeftBy T first.leaves image = λ image left. let from = a.crash left.0 left.1 in
+    (from.0, from.1, both from.0 left.0 image from.2 left.2) in
     record {
       size = b.size ∙ a.size;
       told = b.told ∙ a.told;
@@ -107,7 +113,8 @@ reads-refl : (at n : ℕ) (reads : Option (List ℕ)) → ReadsChangedIn at n re
 reads-refl at n None = tt
 reads-refl at n (Some bytes) = ChangedIn-refl at n bytes
 
-reads-trans : (at n : ℕ) (first middle last : Option (List ℕ)) → ReadsChangedIn at n first middle → ReadsChangedIn at n middle last → ReadsChangedIn at n first last
+reads-trans : (at n : ℕ) (first middle last : Option (List ℕ)) → ReadsChangedIn at n first middle → ReadsChangedIn at n middle last
+    → ReadsChangedIn at n first last
 reads-trans at n None None None a b = tt
 reads-trans at n None None (Some z) a b = b
 reads-trans at n None (Some y) z a b = absurd a
@@ -115,7 +122,8 @@ reads-trans at n (Some x) None z a b = absurd a
 reads-trans at n (Some x) (Some y) None a b = b
 reads-trans at n (Some x) (Some y) (Some z) a b = ChangedIn-trans at n x y z a b
 
-reads-wider : (at n around m : ℕ) (before after : Option (List ℕ)) → around ≤ at → at + n ≤ around + m → ReadsChangedIn at n before after → ReadsChangedIn around m before after
+reads-wider : (at n around m : ℕ) (before after : Option (List ℕ)) → around ≤ at → at + n ≤ around + m → ReadsChangedIn at n before after
+    → ReadsChangedIn around m before after
 reads-wider at n around m None None low high changed = tt
 reads-wider at n around m None (Some y) low high changed = changed
 reads-wider at n around m (Some x) None low high changed = changed
@@ -139,7 +147,9 @@ quiet-wrote at n old new quiet = record {
   reads = let P : Option (List ℕ) → Type 0 = λ r. ReadsChangedIn at n old.reads r in subst P (sym quiet.reads) (reads-refl at n old.reads);
 }
 
-settled-reads : (at n : ℕ) (leaves : List ℕ → Type 0) (before after : Option (List ℕ)) → is_some after ≡ is_some before → ((image : List ℕ) → leaves image → before ≡ Some image) → ((bytes : List ℕ) → after ≡ Some bytes → TornFrom at n leaves bytes) → ReadsChangedIn at n before after
+settled-reads : (at n : ℕ) (leaves : List ℕ → Type 0) (before after : Option (List ℕ)) → is_some after ≡ is_some before
+    → ((image : List ℕ) → leaves image → before ≡ Some image) → ((bytes : List ℕ) → after ≡ Some bytes → TornFrom at n leaves bytes)
+    → ReadsChangedIn at n before after
 settled-reads at n leaves None None told settled torn = tt
 settled-reads at n leaves None (Some y) told settled torn = absurd (cc)
 settled-reads at n leaves (Some x) None told settled torn = absurd (cc)
@@ -156,15 +166,18 @@ settled-wrote at n old new settled lawful torn = record {
 }
 
 -- a run of writes in these ranges, and then in those
-pub run-append : (xs ys : List (ℕ × ℕ)) (first middle last : Seen) → Tears (ChangedInEach xs) first middle → Tears (ChangedInEach ys) middle last → Tears (ChangedInEach (xs ++ ys)) first last
+pub run-append : (xs ys : List (ℕ × ℕ)) (first middle last : Seen) → Tears (ChangedInEach xs) first middle → Tears (ChangedInEach ys) middle last
+    → Tears (ChangedInEach (xs ++ ys)) first last
 run-append xs ys =
-    tears-both (ChangedInEach xs) (ChangedInEach ys) (ChangedInEach (xs ++ ys)) (λ x y changed. ChangedInEach-more xs ys x y changed) (λ x y z a b. ChangedInEach-append xs ys x y z a b)
+    tears-both (ChangedInEach xs) (ChangedInEach ys) (ChangedInEach (xs ++ ys)) (λ x y changed. ChangedInEach-more xs ys x y changed)
+    (λ x y z a b. ChangedInEach-append xs ys x y z a b)
 
 pub run-one : (range : ℕ × ℕ) (old new : Seen) → TornIn range.0 range.1 old new → Tears (ChangedInEach (range ∷ [])) old new
 run-one range = tears-weaker (ChangedIn range.0 range.1) (ChangedInEach (range ∷ [])) (λ x y changed. ChangedInEach-one range x y changed)
 
 -- calls by R, at each moment
-pub tears-leaves : (R : List ℕ → List ℕ → Type 0) → ((image : List ℕ) → R image image) → (old new : Seen) → IsLawful old → Tears R old new → LeavesOnly old new (LeftBy R old.leaves)
+pub tears-leaves : (R : List ℕ → List ℕ → Type 0) → ((image : List ℕ) → R image image) → (old new : Seen) → IsLawful old → Tears R old new
+    → LeavesOnly old new (LeftBy R old.leaves)
 tears-leaves R same old new lawful tears = record {
   later = tears.later;
   each = λ image left. ⊎_elim (λ past. (image, (lawful.now image).1 past, same image)) (λ torn. torn) (tears.since old.moment image (omega arith) left);
@@ -204,7 +217,8 @@ pub leaves-both_facts : (old new : Seen) (P Q : List ℕ → Type 0) → LeavesO
 leaves-both_facts old new P Q p q = record {
   later = p.later;
   each = λ image left. (p.each image left, q.each image left);
-  before = λ t image le left. ⊎_elim (λ past. inl past) (λ has. ⊎_elim (λ past. inl past) (λ also. inr (has, also)) (q.before t image le left)) (p.before t image le left);
+  before = λ t image le left. ⊎_elim (λ past. inl past) (λ has. ⊎_elim (λ past. inl past) (λ also. inr (has, also)) (q.before t image le left))
+      (p.before t image le left);
 }
 
 -- a weaker fact
@@ -220,26 +234,30 @@ pub leaves-now : (old new : Seen) (P : List ℕ → Type 0) → IsLawful new →
 leaves-now old new P lawful leaves image now = leaves.each image (counts_now new lawful old.moment image leaves.later now)
 
 -- a spared fact of every image from before changes is one of every image after them
-pub spared-each : (ranges : List (ℕ × ℕ)) (P : List ℕ → Type 0) → IsSparedByAll ranges P → (before after : List ℕ) → ChangedInEach ranges before after → P before → P after
+pub spared-each : (ranges : List (ℕ × ℕ)) (P : List ℕ → Type 0) → IsSparedByAll ranges P → (before after : List ℕ) → ChangedInEach ranges before after
+    → P before → P after
 spared-each [] P spared before after changed has = subst P (sym changed) has
 spared-each (range ∷ ranges) P spared before after changed has =
     spared-each ranges P spared.1 changed.0 after changed.2 (spared.0 before changed.0 changed.1 has)
 
 -- A fact that no write in these ranges makes false, as one about bytes outside all of them, survives any run of
 -- them: if it held of every image as they began, it holds of every image that a crash since might have left.
-pub spared-run : (ranges : List (ℕ × ℕ)) (old new : Seen) (P : List ℕ → Type 0) → IsLawful old → Tears (ChangedInEach ranges) old new → IsSparedByAll ranges P → ((image : List ℕ) → old.leaves image → P image) → LeavesOnly old new P
+pub spared-run : (ranges : List (ℕ × ℕ)) (old new : Seen) (P : List ℕ → Type 0) → IsLawful old → Tears (ChangedInEach ranges) old new → IsSparedByAll ranges P
+    → ((image : List ℕ) → old.leaves image → P image) → LeavesOnly old new P
 spared-run ranges old new P lawful run spared has =
     leaves-weaker old new (LeftBy (ChangedInEach ranges) old.leaves) P
     (λ image torn. spared-each ranges P spared torn.0 image torn.2 (has torn.0 torn.1))
     (tears-leaves (ChangedInEach ranges) (λ image. ChangedInEach-refl ranges image) old new lawful run)
 
 -- and any writes in one range
-pub spared-torn : (at n : ℕ) (old new : Seen) (P : List ℕ → Type 0) → IsLawful old → TornIn at n old new → IsSpared (at, n) P → ((image : List ℕ) → old.leaves image → P image) → LeavesOnly old new P
+pub spared-torn : (at n : ℕ) (old new : Seen) (P : List ℕ → Type 0) → IsLawful old → TornIn at n old new → IsSpared (at, n) P
+    → ((image : List ℕ) → old.leaves image → P image) → LeavesOnly old new P
 spared-torn at n old new P lawful torn spared has =
     leaves-weaker old new (TornFrom at n old.leaves) P (λ image from. spared from.0 image from.2 (has from.0 from.1)) (torn-leaves at n old new lawful torn)
 
 -- where a crash leaves what a read gives, a fact of what a read gives is one of every image, and the other way round
-pub settled-fact : (disk : Seen) (bytes : List ℕ) (P : List ℕ → Type 0) → IsLawful disk → IsSettled disk → disk.reads ≡ Some bytes → ((image : List ℕ) → disk.leaves image → P image) ↔ P bytes
+pub settled-fact : (disk : Seen) (bytes : List ℕ) (P : List ℕ → Type 0) → IsLawful disk → IsSettled disk → disk.reads ≡ Some bytes
+    → ((image : List ℕ) → disk.leaves image → P image) ↔ P bytes
 settled-fact disk bytes P lawful settled is = (
   λ each. each bytes (lawful.reads_as_left bytes is),
   λ has image left. subst P (same_Some bytes image (sym is ∙ settled image left)) has,

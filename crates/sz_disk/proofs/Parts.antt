@@ -29,7 +29,8 @@ ChangedIn-patched at bytes image fits =
     let front : length (take at image) ≡ at = length-take-le at image (omega arith) in
     let both : length (take at image ++ bytes) ≡ at + length bytes = length-append (take at image) bytes ∙ ap (λ (k : ℕ). k + length bytes) front in
     record {
-      front = ap (take at) (append_assoc (take at image) bytes (drop (at + length bytes) image)) ∙ take_at (take at image) (bytes ++ drop (at + length bytes) image) at front;
+      front = ap (take at) (append_assoc (take at image) bytes (drop (at + length bytes) image))
+          ∙ take_at (take at image) (bytes ++ drop (at + length bytes) image) at front;
       back = drop_at (take at image ++ bytes) (drop (at + length bytes) image) (at + length bytes) both;
       size = omega (arith, length-append (take at image ++ bytes) (drop (at + length bytes) image), length-drop (at + length bytes) image);
     }
@@ -47,7 +48,8 @@ get_or-outside at n before after changed k where' =
     ]
 
 -- a byte of those that were put in the place of others
-pub get_or-patched : (at : ℕ) (bytes image : List ℕ) → at + length bytes ≤ length image → (i : ℕ) → i < length bytes → get_or (patched at bytes image) (at + i) 0 ≡ get_or bytes i 0
+pub get_or-patched : (at : ℕ) (bytes image : List ℕ) → at + length bytes ≤ length image → (i : ℕ) → i < length bytes
+    → get_or (patched at bytes image) (at + i) 0 ≡ get_or bytes i 0
 get_or-patched at bytes image fits i lt =
     sym (get_or-drop at (patched at bytes image) i 0)
     ∙ ap (λ (s : List ℕ). get_or (drop at s) i 0) (append_assoc (take at image) bytes (drop (at + length bytes) image))
@@ -63,7 +65,8 @@ pub length-part : (image : List ℕ) (at n : ℕ) → at + n ≤ length image �
 length-part image at n fits = length-take-le n (drop at image) (omega (arith, length-drop at image))
 
 -- other bytes put over bytes, and then what stood there put back
-pub patched-part : (at : ℕ) (bytes image : List ℕ) → at + length bytes ≤ length image → patched at (part image at (length bytes)) (patched at bytes image) ≡ image
+pub patched-part : (at : ℕ) (bytes image : List ℕ) → at + length bytes ≤ length image
+    → patched at (part image at (length bytes)) (patched at bytes image) ≡ image
 patched-part at bytes image fits =
     let changed = ChangedIn-patched at bytes image fits in
     let long : length (part image at (length bytes)) ≡ length bytes = length-part image at (length bytes) fits in
@@ -99,7 +102,8 @@ part-outside at n before after q m changed (inr behind) =
     sym (part_behind after (at + n) q m behind) ∙ ap (λ l. part l (q - (at + n)) m) changed.back ∙ part_behind before (at + n) q m behind
 
 -- a written range holds what was written
-pub part-patched : (image : List ℕ) (at : ℕ) (bytes : List ℕ) (o m : ℕ) → at ≤ length image → o + m ≤ length bytes → part (patched at bytes image) (at + o) m ≡ part bytes o m
+pub part-patched : (image : List ℕ) (at : ℕ) (bytes : List ℕ) (o m : ℕ) → at ≤ length image → o + m ≤ length bytes
+    → part (patched at bytes image) (at + o) m ≡ part bytes o m
 part-patched image at bytes o m within fits =
     let front : length (take at image) ≡ at = length-take-le at image within in
     let rest : List ℕ = drop (at + length bytes) image in
@@ -110,7 +114,8 @@ part-patched image at bytes o m within fits =
     ∙ ap (λ l. part l o m) (take_at bytes rest (length bytes) refl)
 
 -- two writes, the second right behind the first, are one
-pub patched-patched : (image : List ℕ) (at : ℕ) (xs ys : List ℕ) → at ≤ length image → patched (at + length xs) ys (patched at xs image) ≡ patched at (xs ++ ys) image
+pub patched-patched : (image : List ℕ) (at : ℕ) (xs ys : List ℕ) → at ≤ length image
+    → patched (at + length xs) ys (patched at xs image) ≡ patched at (xs ++ ys) image
 patched-patched image at xs ys within =
     let front : length (take at image) ≡ at = length-take-le at image within in
     let both : length (take at image ++ xs) ≡ at + length xs = omega (arith, length-append (take at image) xs) in
@@ -126,7 +131,8 @@ patched-patched image at xs ys within =
     ∙ ap (λ l. l ++ drop (at + length (xs ++ ys)) image) (append_assoc (take at image) xs ys)
 
 -- a change in a range is one in each range around it
-pub ChangedIn-wider : (at n around m : ℕ) (before after : List ℕ) → around ≤ at → at + n ≤ around + m → ChangedIn at n before after → ChangedIn around m before after
+pub ChangedIn-wider : (at n around m : ℕ) (before after : List ℕ) → around ≤ at → at + n ≤ around + m → ChangedIn at n before after
+    → ChangedIn around m before after
 ChangedIn-wider at n around m before after low high changed = record {
   front = sym (take-take around at after low) ∙ ap (λ l. take around l) changed.front ∙ take-take around at before low;
   back =
@@ -144,7 +150,8 @@ pub ChangedInEach-one : (range : ℕ × ℕ) (before after : List ℕ) → Chang
 ChangedInEach-one range before after changed = (after, changed, refl)
 
 -- changes in some ranges, and then in others
-pub ChangedInEach-append : (xs ys : List (ℕ × ℕ)) (first middle last : List ℕ) → ChangedInEach xs first middle → ChangedInEach ys middle last → ChangedInEach (xs ++ ys) first last
+pub ChangedInEach-append : (xs ys : List (ℕ × ℕ)) (first middle last : List ℕ) → ChangedInEach xs first middle → ChangedInEach ys middle last
+    → ChangedInEach (xs ++ ys) first last
 ChangedInEach-append [] ys first middle last a b =
     let P : List ℕ → Type 0 = λ s. ChangedInEach ys s last in
     subst P a b

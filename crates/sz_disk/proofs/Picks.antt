@@ -27,7 +27,8 @@ picked-old choice rank old new a b turn = grind (arith, nat_tests)
 pub picked-new : (choice rank old new : ℕ) → choice ≢ 0 → choice ≢ 1 → choice * (rank + 1) % 3 ≡ 1 → new ≡ picked_byte choice rank old new
 picked-new choice rank old new a b turn = grind (arith, nat_tests)
 
-pub picked-other : (choice rank old new : ℕ) → choice ≢ 0 → choice ≢ 1 → choice * (rank + 1) % 3 ≢ 0 → choice * (rank + 1) % 3 ≢ 1 → (choice + rank) % 256 ≡ picked_byte choice rank old new
+pub picked-other : (choice rank old new : ℕ) → choice ≢ 0 → choice ≢ 1 → choice * (rank + 1) % 3 ≢ 0 → choice * (rank + 1) % 3 ≢ 1
+    → (choice + rank) % 256 ≡ picked_byte choice rank old new
 picked-other choice rank old new a b c d = grind (arith, nat_tests)
 
 -- no more places are covered than there are
@@ -48,7 +49,8 @@ rank-past events from (suc n) none =
     ∙ rank-past events from n (λ k a b. none k a (omega arith))
 
 -- past the first that is
-rank-next : (events : List Event) (from place : ℕ) → from ≤ place → ((k : ℕ) → from ≤ k → k < place → is_covered events k ≡ false) → is_covered events place ≡ true → rank events (place + 1) ≡ rank events from + 1
+rank-next : (events : List Event) (from place : ℕ) → from ≤ place → ((k : ℕ) → from ≤ k → k < place → is_covered events k ≡ false)
+    → is_covered events place ≡ true → rank events (place + 1) ≡ rank events from + 1
 rank-next events from place le none covered =
     let e : from + (place - from) ≡ place = omega arith in
     ap (rank events) (add-one place)
@@ -65,7 +67,8 @@ pub record PickedSoFar (choice : ℕ) (events : List Event) (from count : ℕ) (
   pub taken : (k : ℕ) → k < from → is_covered events k ≡ true → get_or bytes k 0 ≡ picked_byte choice (rank events k) (written_over events k) (get_or start k 0)
   pub rest : (k : ℕ) → from ≤ k → get_or bytes k 0 ≡ get_or start k 0
 
-ranked-here : (events : List Event) (from place count : ℕ) → from ≤ place → ((k : ℕ) → from ≤ k → k < place → is_covered events k ≡ false) → count ≡ rank events from → rank events place ≡ count
+ranked-here : (events : List Event) (from place count : ℕ) → from ≤ place → ((k : ℕ) → from ≤ k → k < place → is_covered events k ≡ false)
+    → count ≡ rank events from → rank events place ≡ count
 ranked-here events from place count le none e =
     let same : from + (place - from) ≡ place = omega arith in
     ap (rank events) (sym same) ∙ rank-past events from (place - from) (λ k a b. none k a (omega arith)) ∙ sym e
@@ -73,12 +76,16 @@ ranked-here events from place count le none e =
 below_or : (k place : ℕ) → k ≤ place → (k < place) ⊎ (k ≡ place)
 below_or k place le = ⊎_elim (λ lt. inl lt) (λ ge. inr (omega arith)) (cases_lt k place)
 
-taken-below : (choice : ℕ) (events : List Event) (from count : ℕ) (start bytes : List ℕ) → PickedSoFar choice events from count start bytes → (place : ℕ) → ((k : ℕ) → from ≤ k → k < place → is_covered events k ≡ false) → (k : ℕ) → k < place → is_covered events k ≡ true → get_or bytes k 0 ≡ picked_byte choice (rank events k) (written_over events k) (get_or start k 0)
+taken-below : (choice : ℕ) (events : List Event) (from count : ℕ) (start bytes : List ℕ) → PickedSoFar choice events from count start bytes → (place : ℕ)
+    → ((k : ℕ) → from ≤ k → k < place → is_covered events k ≡ false) → (k : ℕ) → k < place → is_covered events k ≡ true
+    → get_or bytes k 0 ≡ picked_byte choice (rank events k) (written_over events k) (get_or start k 0)
 taken-below choice events from count start bytes so place none k lt h =
     ⊎_elim (λ below. so.taken k below h) (λ past. absurd (false≢true (sym (none k past lt) ∙ h))) (cases_lt k from)
 
 -- the next covered place is picked, too
-pub picked-step : (choice : ℕ) (events : List Event) (from count : ℕ) (start bytes : List ℕ) (found : ℕ × ℕ) (byte : ℕ) → PickedSoFar choice events from count start bytes → IsFirst events from (length bytes) found → byte ≡ picked_byte choice count found.1 (get_or bytes found.0 0) → PickedSoFar choice events (found.0 + 1) (count + 1) start (set bytes found.0 byte)
+pub picked-step : (choice : ℕ) (events : List Event) (from count : ℕ) (start bytes : List ℕ) (found : ℕ × ℕ) (byte : ℕ)
+    → PickedSoFar choice events from count start bytes → IsFirst events from (length bytes) found
+    → byte ≡ picked_byte choice count found.1 (get_or bytes found.0 0) → PickedSoFar choice events (found.0 + 1) (count + 1) start (set bytes found.0 byte)
 picked-step choice events from count start bytes found byte so is e =
     let place : ℕ = found.0 in
     let le : from ≤ place = is.after in
@@ -89,7 +96,9 @@ picked-step choice events from count start bytes found byte so is e =
       size = length-set bytes place byte ∙ so.size;
       counted = ap (λ (n : ℕ). n + 1) so.counted ∙ sym (rank-next events from place le is.none_before is.covered);
       kept = λ k h. get_or-set_other bytes place k byte 0 (λ eq. false≢true (sym h ∙ ap (is_covered events) eq ∙ is.covered)) ∙ so.kept k h;
-      taken = λ k less h. ⊎_elim (λ below. get_or-set_other bytes place k byte 0 (λ eq. absurd (omega arith)) ∙ taken-below choice events from count start bytes so place is.none_before k below h)
+      taken = λ k less h. ⊎_elim
+          (λ below. get_or-set_other bytes place k byte 0 (λ eq. absurd (omega arith))
+          ∙ taken-below choice events from count start bytes so place is.none_before k below h)
           (λ eq. ap (λ (i : ℕ). get_or (set bytes place byte) i 0) eq ∙ get_or-set_same bytes place byte 0 lt ∙ e
           ∙ ap (λ (n : ℕ). picked_byte choice n found.1 (get_or bytes place 0)) (sym same)
           ∙ ap (λ (o : ℕ). picked_byte choice (rank events place) o (get_or bytes place 0)) is.old
@@ -100,18 +109,23 @@ picked-step choice events from count start bytes found byte so is e =
     }
 
 -- a place that is not covered is passed
-pub picked-skip : (choice : ℕ) (events : List Event) (from count : ℕ) (start bytes : List ℕ) → PickedSoFar choice events from count start bytes → from < length bytes → is_covered events from ≡ false → PickedSoFar choice events (from + 1) count start bytes
+pub picked-skip : (choice : ℕ) (events : List Event) (from count : ℕ) (start bytes : List ℕ) → PickedSoFar choice events from count start bytes
+    → from < length bytes → is_covered events from ≡ false → PickedSoFar choice events (from + 1) count start bytes
 picked-skip choice events from count start bytes so lt free = record {
   within = omega (arith, lt);
   size = so.size;
   counted = so.counted ∙ sym (rank-past events from 1 (λ k a b. let e : k ≡ from = omega (arith, a, b) in ap (is_covered events) e ∙ free));
   kept = so.kept;
-  taken = λ k less h. ⊎_elim (λ below. so.taken k below h) (λ e. absurd (false≢true (sym free ∙ sym (ap (is_covered events) e) ∙ h))) (below_or k from (omega (arith, less)));
+  taken = λ k less h. ⊎_elim (λ below. so.taken k below h) (λ e. absurd (false≢true (sym free ∙ sym (ap (is_covered events) e) ∙ h)))
+      (below_or k from (omega (arith, less)));
   rest = λ k h. so.rest k (omega (arith, h));
 }
 
 -- a place that is covered is picked, over the bytes of the last sync
-pub picked-here : (choice : ℕ) (events : List Event) (from count : ℕ) (start bytes old : List ℕ) (was byte : ℕ) → EachFits (length start) events → PickedSoFar choice events from count start bytes → from < length start → is_covered events from ≡ true → old ≡ undone events start → was ≡ get_or old from was → byte ≡ picked_byte choice count was (get_or bytes from 0) → PickedSoFar choice events (from + 1) (count + 1) start (set bytes from byte)
+pub picked-here : (choice : ℕ) (events : List Event) (from count : ℕ) (start bytes old : List ℕ) (was byte : ℕ) → EachFits (length start) events
+    → PickedSoFar choice events from count start bytes → from < length start → is_covered events from ≡ true → old ≡ undone events start
+    → was ≡ get_or old from was → byte ≡ picked_byte choice count was (get_or bytes from 0)
+    → PickedSoFar choice events (from + 1) (count + 1) start (set bytes from byte)
 picked-here choice events from count start bytes old was byte fits so lt covered is read e =
     let long : from < length old = omega (arith, lt, ap length is, length-undone events start fits) in
     picked-step choice events from count start bytes (from, was) byte so (record {
@@ -123,7 +137,8 @@ picked-here choice events from count start bytes old was byte fits so lt covered
     }) e
 
 -- no covered place is left
-pub picked-all : (choice : ℕ) (events : List Event) (from count : ℕ) (start bytes : List ℕ) → PickedSoFar choice events from count start bytes → ((k : ℕ) → from ≤ k → k < length bytes → is_covered events k ≡ false) → IsPicked choice events (written_over events) start bytes
+pub picked-all : (choice : ℕ) (events : List Event) (from count : ℕ) (start bytes : List ℕ) → PickedSoFar choice events from count start bytes
+    → ((k : ℕ) → from ≤ k → k < length bytes → is_covered events k ≡ false) → IsPicked choice events (written_over events) start bytes
 picked-all choice events from count start bytes so none = record {
   size = so.size;
   kept = so.kept;

@@ -26,7 +26,8 @@ picked_byte choice rank old new =
 pub record IsPicked (choice : ℕ) (events : List Event) (old : ℕ → ℕ) (new image : List ℕ) : Type 0 where
   pub size : length image ≡ length new
   pub kept : (k : ℕ) → is_covered events k ≡ false → get_or image k 0 ≡ get_or new k 0
-  pub taken : (k : ℕ) → k < length new → is_covered events k ≡ true → get_or image k 0 ≡ picked_byte choice (rank events k) (old k) (get_or new k 0)
+  pub taken : (k : ℕ) → k < length new → is_covered events k ≡ true
+      → get_or image k 0 ≡ picked_byte choice (rank events k) (old k) (get_or new k 0)
 
 -- marks of the places below this size that these events cover
 pub record AreCovered (size : ℕ) (events : List Event) (marks : List Bool) : Type 0 where

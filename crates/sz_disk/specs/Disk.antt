@@ -86,7 +86,8 @@ pub record Tears (R : List ℕ → List ℕ → Type 0) (old new : Seen) : Type 
   pub told : is_some new.reads ≡ is_some old.reads
   pub crash : (image : List ℕ) → new.leaves image → LeftBy R old.leaves image
   pub later : old.moment ≤ new.moment
-  pub since : (t : ℕ) (image : List ℕ) → t ≤ old.moment → new.since t image → old.since t image ⊎ LeftBy R old.leaves image
+  pub since : (t : ℕ) (image : List ℕ) → t ≤ old.moment → new.since t image
+      → old.since t image ⊎ LeftBy R old.leaves image
   pub keeps : (t : ℕ) (image : List ℕ) → t ≤ old.moment → old.since t image → new.since t image
 
 -- Calls that wrote in this range alone: until a sync a crash may leave any bytes there.

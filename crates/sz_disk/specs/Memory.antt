@@ -95,7 +95,8 @@ IsMarked old new kept = MatchBool kept (RecordsSync old new) (IsShort old new)
 
 -- A read, by the call's fate.
 abbrev pub ReadsBy : Fate → ℕ → List ℕ → Memory → Memory → Bool → Type 0
-ReadsBy Runs at given old new refused = (refused ≡ false) × IsUntouched old new × (given ≡ part old.bytes at (length given))
+ReadsBy Runs at given old new refused = (refused ≡ false) × IsUntouched old new
+    × (given ≡ part old.bytes at (length given))
 ReadsBy AtCut at given old new refused = (refused ≡ true) × IsUntouched old new
 ReadsBy Refused at given old new refused = (refused ≡ true) × IsUntouched old new
 

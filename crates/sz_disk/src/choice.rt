@@ -1,5 +1,5 @@
 //! What a crash leaves of the unsynced bytes of a disk in memory, by a choice.
-ghost use Rattle.std.specs.Prelude.{◌≡◌, ◌+◌, ◌<◌, ◌≤◌, ℕ, Bool, false, ◌||◌, ◌&&◌, nat_le, nat_lt, [], ◌∷◌, length, IfOk, OnOk, OnErr};
+ghost use Rattle.std.specs.Prelude.{◌≡◌, ◌+◌, ◌<◌, ◌≤◌, ℕ, false, ◌||◌, ◌&&◌, nat_le, nat_lt, [], ◌∷◌, length, IfOk, OnOk, OnErr};
 ghost use Rattle.std.proofs.Common.{get_or};
 ghost use Rattle.sz_disk.specs.Event.{undone, written_over};
 ghost use Rattle.sz_disk.specs.Medium.{EachFits};

@@ -1,6 +1,5 @@
 //! Tests of the trait of a room, through one in memory.
 ghost use Rattle.std.specs.Prelude.{◌≡◌, ◌+◌, ◌<◌, ◌≤◌, ◌^◌, length, Some, OnOk};
-ghost use Rattle.sz_disk.specs.Room.{Held};
 
 use super::Room;
 use std::test::Fail;

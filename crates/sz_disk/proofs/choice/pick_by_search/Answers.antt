@@ -8,7 +8,8 @@ overflow_add-rank c = omega (arith, rank-le c.args.pending.now c.loop-place.from
 pub loop-place-preserved : goal.loop-place-preserved
 loop-place-preserved c =
     let e = c.picked_byte.ensures in
-    picked-step c.args.choice c.args.pending.now c.loop-place.from c.loop-place.rank c.args.bytes.now c.loop-place.bytes (c.in-Some.place, c.in-Some.old) c.picked_byte.result c.loop-place.invariant c.in-Some.ensures e
+    picked-step c.args.choice c.args.pending.now c.loop-place.from c.loop-place.rank c.args.bytes.now c.loop-place.bytes
+    (c.in-Some.place, c.in-Some.old) c.picked_byte.result c.loop-place.invariant c.in-Some.ensures e
 
 pub returns : goal.returns
 returns c =

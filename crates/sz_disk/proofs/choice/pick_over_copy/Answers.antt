@@ -18,6 +18,8 @@ loop-place-preserved c =
     let covered : is_covered pending place ≡ c.index.result.now =
     sym (c.in_ok-covered.ensures.each place c.loop-place-test.true) ∙ get_or_default marks place false c.index.result.now marked ∙ sym c.index.ensures in
     elim c.if-index.branch [
-      | then-index w ↦ rw (w.bytes-is, w.rank-is) (picked-here c.args.choice pending place c.loop-place.rank c.args.bytes.now c.loop-place.bytes c.in_ok-old.old.items w.index-then-index.result.now w.picked_byte.result c.requires c.loop-place.invariant c.loop-place-test.true (covered ∙ w.if-index.true) c.in_ok-old.ensures.bytes w.index-then-index.ensures w.picked_byte.ensures)
-      | else-index w ↦ rw (w.bytes-is, w.rank-is) (picked-skip c.args.choice pending place c.loop-place.rank c.args.bytes.now c.loop-place.bytes c.loop-place.invariant lt (covered ∙ w.if-index.false))
+      | then-index w ↦ rw (w.bytes-is, w.rank-is)
+          (picked-here c.args.choice pending place c.loop-place.rank c.args.bytes.now c.loop-place.bytes c.in_ok-old.old.items w.index-then-index.result.now w.picked_byte.result c.requires c.loop-place.invariant c.loop-place-test.true (covered ∙ w.if-index.true) c.in_ok-old.ensures.bytes w.index-then-index.ensures w.picked_byte.ensures)
+      | else-index w ↦ rw (w.bytes-is, w.rank-is)
+          (picked-skip c.args.choice pending place c.loop-place.rank c.args.bytes.now c.loop-place.bytes c.loop-place.invariant lt (covered ∙ w.if-index.false))
     ]

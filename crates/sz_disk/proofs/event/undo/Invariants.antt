@@ -1,4 +1,4 @@
-use Rattle.std.proofs.Common.{◌≡◌, length, drop}
+use Rattle.std.proofs.Common.{◌≡◌, drop}
 use Rattle.sz_disk.specs.Event.{undone}
 use Rattle.sz_disk.proofs.event.undo.Given as goal
 

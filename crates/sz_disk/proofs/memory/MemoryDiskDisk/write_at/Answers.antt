@@ -6,4 +6,5 @@ pub returns-clause-wrote : goal.returns-clause-wrote
 returns-clause-wrote c =
     let old = view c.args.self.now in
     let new = view c.write_next.new.self in
-    write-wrote c.args.at c.args.bytes.now old new c.requires (written_or_same c.write_next.ensures.written.0 c.args.at c.args.bytes.now old new _ c.write_next.ensures.written.2)
+    write-wrote c.args.at c.args.bytes.now old new c.requires
+    (written_or_same c.write_next.ensures.written.0 c.args.at c.args.bytes.now old new _ c.write_next.ensures.written.2)
