@@ -5,7 +5,8 @@ use Rattle.std.proofs.lemmas.List.Elements.{All-push}
 use Rattle.sz_disk.specs.Medium.{end_of, EachFits}
 use Rattle.sz_disk.specs.declared.event.Event.{Event}
 
-pub fits-push : (n m : ℕ) (events more : List Event) (event : Event) → more ≡ events ++ event ∷ [] → m ≡ n → end_of event ≤ n → EachFits n events → EachFits m more
+pub fits-push : (n m : ℕ) (events more : List Event) (event : Event) → more ≡ events ++ event ∷ [] → m ≡ n → end_of event ≤ n → EachFits n events
+    → EachFits m more
 fits-push n m events more event e same within fits =
     let P : ℕ → Type 0 = λ k. EachFits k more in
     let Q : List Event → Type 0 = λ s. EachFits n s in

@@ -1,5 +1,5 @@
 -- Which of the images that a crash may leave a choice picks.
-use Rattle.std.specs.Prelude.{◌≡◌, ℕ, zero, suc, ◌+◌, ◌*◌, ◌%◌, ◌<◌, ◌≤◌, true, false, List, length, Option, MatchOption, if◌then◌else◌, ◌==◌}
+use Rattle.std.specs.Prelude.{◌≡◌, ℕ, zero, suc, ◌+◌, ◌*◌, ◌%◌, ◌<◌, ◌≤◌, Bool, true, false, List, length, Option, MatchOption, if◌then◌else◌, ◌==◌}
 use Rattle.std.proofs.Common.{get_or}
 use Rattle.sz_disk.specs.declared.event.Event.{Event}
 use Rattle.sz_disk.specs.Event.{is_covered, written_over}
@@ -26,7 +26,13 @@ picked_byte choice rank old new =
 pub record IsPicked (choice : ℕ) (events : List Event) (old : ℕ → ℕ) (new image : List ℕ) : Type 0 where
   pub size : length image ≡ length new
   pub kept : (k : ℕ) → is_covered events k ≡ false → get_or image k 0 ≡ get_or new k 0
-  pub taken : (k : ℕ) → k < length new → is_covered events k ≡ true → get_or image k 0 ≡ picked_byte choice (rank events k) (old k) (get_or new k 0)
+  pub taken : (k : ℕ) → k < length new → is_covered events k ≡ true
+      → get_or image k 0 ≡ picked_byte choice (rank events k) (old k) (get_or new k 0)
+
+-- marks of the places below this size that these events cover
+pub record AreCovered (size : ℕ) (events : List Event) (marks : List Bool) : Type 0 where
+  pub long : length marks ≡ size
+  pub each : (k : ℕ) → k < size → get_or marks k false ≡ is_covered events k
 
 -- the first place from one place on and before another that these events cover, with the byte that they
 -- wrote over

@@ -1,6 +1,5 @@
 -- Which calls of a disk in memory fail.
-use Rattle.std.specs.Prelude.{ℕ, ◌+◌, min, Bool, false, List, Some, if◌then◌else◌, ◌==◌, nat_le}
-use Rattle.std.specs.List.{list_any}
+use Rattle.std.specs.Prelude.{◌≡◌, ◌⊎◌, ℕ, ◌+◌, ◌<◌, ◌≤◌, min, List, Some, Contains}
 use Rattle.std.specs.Option.{option_map_or}
 use Rattle.sz_spec.specs.Cause.{last_count}
 use Rattle.sz_disk.specs.declared.plan.Plan.{Plan}
@@ -16,25 +15,24 @@ next_call plan = min (plan.calls + 1) last_count
 abbrev pub counted : Plan → Plan
 counted plan = record plan { calls = next_call plan }
 
--- whether the cut was reached
-abbrev pub is_stopped : Plan → Bool
-is_stopped plan = option_map_or (λ cut. nat_le cut.call plan.calls) plan.cut false
+-- the cut fell at an earlier call
+abbrev pub WasCut : Plan → Type 0
+WasCut plan = (cut : Cut) × (plan.cut ≡ Some cut) × (cut.call ≤ plan.calls)
 
--- whether the next call is the cut
-abbrev pub is_cut : Plan → Bool
-is_cut plan = option_map_or (λ cut. cut.call == next_call plan) plan.cut false
+-- the cut falls at the next call
+abbrev pub FallsNext : Plan → Type 0
+FallsNext plan = (cut : Cut) × (plan.cut ≡ Some cut) × (cut.call ≡ next_call plan) × (plan.calls < cut.call)
 
--- whether the next call is one of those that are named
-abbrev pub is_named : Plan → Bool
-is_named plan = list_any (λ call. call == next_call plan) plan.failing
+-- the next call is one of those that are named
+abbrev pub IsNamed : Plan → Type 0
+IsNamed plan = Contains plan.failing (next_call plan)
 
--- what becomes of the next call
-abbrev pub fate_of : Plan → Fate
-fate_of plan =
-    if is_stopped plan then Refused
-    else if is_cut plan then AtCut
-    else if is_named plan then Refused
-    else Runs
+-- What becomes of the next call: it is refused where it is named or comes after the cut, and the cut itself
+-- goes before a name.
+abbrev pub HasFate : Plan → Fate → Type 0
+HasFate plan Runs = ¬ WasCut plan × ¬ FallsNext plan × ¬ IsNamed plan
+HasFate plan AtCut = FallsNext plan
+HasFate plan Refused = WasCut plan ⊎ (IsNamed plan × ¬ FallsNext plan)
 
 -- the choice of the cut, or 0 where none is named
 abbrev pub choice_of : Plan → ℕ
@@ -44,6 +42,11 @@ choice_of plan = option_map_or (λ cut. cut.choice) plan.cut 0
 abbrev pub with_failing : Plan → List ℕ → Plan
 with_failing plan calls = record plan { failing = calls }
 
--- another cut is named, unless one was reached
+-- another cut is named
 abbrev pub with_cut : Plan → Cut → Plan
-with_cut plan cut = if is_stopped plan then plan else record plan { cut = Some cut }
+with_cut plan cut = record plan { cut = Some cut }
+
+-- another cut is named, unless one fell: that one stays
+pub record NamesCut (cut : Cut) (old new : Plan) : Type 0 where
+  pub fell : WasCut old → new ≡ old
+  pub named : ¬ WasCut old → new ≡ with_cut old cut

@@ -1,4 +1,5 @@
-ghost use Rattle.std.specs.Prelude.{◌≡◌, ◌+◌, ◌≤◌, [], ◌∷◌, ◌++◌, length, replicate, IfOk, OnOk, OnErr};
+//! The bytes of a disk in memory, and the record of what was written and synced.
+ghost use Rattle.std.specs.Prelude.{◌≡◌, ◌+◌, ◌<◌, ◌≤◌, ◌^◌, [], ◌∷◌, ◌++◌, length, replicate, IfOk, OnOk, OnErr};
 ghost use Rattle.sz_disk.specs.Image.{part, patched};
 ghost use Rattle.sz_disk.specs.Event.{unsynced, undone};
 ghost use Rattle.sz_disk.specs.Choice.{IsPicked};
@@ -7,7 +8,7 @@ ghost use Rattle.sz_disk.specs.declared.event.Event.TheVariants.{Wrote, Synced};
 ghost use Rattle.std.proofs.Common.{get_or};
 
 use crate::choice::pick;
-use crate::event::{Event, since_sync};
+use crate::event::{Event, patch, since_sync};
 use std::alloc::Global;
 use sz_base::{Bytes, OutOfMemory};
 
@@ -16,6 +17,7 @@ use sz_base::{Bytes, OutOfMemory};
 pub struct Medium {
     pub bytes: Vec<u8>,
     pub events: Vec<Event>,
+    ghost word: { length bytes.items < 2 ^ 64 },
     ghost fits: { EachFits (length bytes.items) events.items },
 }
 
@@ -58,21 +60,13 @@ impl Medium {
     }
 
     /// Leaves of each unsynced byte what a choice picks, and begins a new record.
-    pub fn settle(&mut self, choice: u64)
+    pub fn settle(&mut self, alloc: Global, choice: u64)
         ensures image { let pending = unsynced self.old.events.items in
             IsPicked choice pending (λ k. get_or (undone pending self.old.bytes.items) k 0)
             self.old.bytes.items self.new.bytes.items }
         ensures events { self.new.events.items ≡ [] }
     {
-        pick(&mut self.bytes, since_sync(&self.events), choice);
+        pick(alloc, &mut self.bytes, since_sync(&self.events), choice);
         self.events.clear();
     }
-}
-
-/// Writes these bytes from a place on.
-fn patch(bytes: &mut [u8], at: usize, new: &[u8])
-    requires { at + length new.now ≤ length bytes.old }
-    ensures { bytes.new ≡ patched at new.now bytes.old }
-{
-    bytes[at..at + new.len()].copy_from_slice(new);
 }

@@ -1,5 +1,6 @@
-ghost use Rattle.std.specs.Prelude.{◌≡◌, ◌+◌, min, [], None};
-ghost use Rattle.sz_disk.specs.Plan.{fate_of, counted, is_stopped, choice_of, with_cut};
+//! Which calls of a disk in memory fail.
+ghost use Rattle.std.specs.Prelude.{◌≡◌, ◌↔◌, [], None, IsTrue};
+ghost use Rattle.sz_disk.specs.Plan.{HasFate, counted, next_call, WasCut, FallsNext, IsNamed, choice_of, NamesCut};
 
 use std::alloc::Global;
 use sz_base::Calls;
@@ -41,20 +42,13 @@ impl Plan {
         }
     }
 
-    /// Names the cut, unless one was reached.
+    /// Names the cut, unless one fell.
     pub fn cut_at(&mut self, cut: Cut)
-        ensures { self.new ≡ with_cut self.old cut }
+        ensures { NamesCut cut self.old self.new }
     {
-        if !self.is_stopped() {
+        if !self.was_cut() {
             self.cut = Some(cut);
         }
-    }
-
-    /// The cut was reached.
-    fn is_stopped(&self) -> bool
-        ensures { result ≡ is_stopped self.now }
-    {
-        self.cut.is_some_and(|cut| cut.call <= self.calls)
     }
 
     /// The choice of the cut, or 0 where none is named.
@@ -66,17 +60,60 @@ impl Plan {
 
     /// Counts a call, and says what becomes of it.
     pub fn count(&mut self) -> Fate
-        ensures fate { result ≡ fate_of self.old }
+        ensures fate { HasFate self.old result }
         ensures plan { self.new ≡ counted self.old }
     {
-        let stopped = self.is_stopped();
-        let call = self.calls.saturating_add(1);
-        self.calls = call;
-        match self.cut {
-            _ if stopped => Fate::Refused,
-            Some(cut) if cut.call == call => Fate::AtCut,
-            _ if self.failing.as_slice().contains(&call) => Fate::Refused,
-            _ => Fate::Runs,
+        let fate = self.fate();
+        self.calls = self.next_call();
+        fate
+    }
+
+    /// What becomes of the next call.
+    fn fate(&self) -> Fate
+        ensures { HasFate self.now result }
+    {
+        if self.was_cut() {
+            Fate::Refused
+        } else if self.falls_next() {
+            Fate::AtCut
+        } else if self.is_named() {
+            Fate::Refused
+        } else {
+            Fate::Runs
         }
+    }
+
+    /// The number of the next call.
+    fn next_call(&self) -> u64
+        ensures { result ≡ next_call self.now }
+    {
+        self.calls.saturating_add(1)
+    }
+
+    /// The cut fell at an earlier call.
+    fn was_cut(&self) -> bool
+        ensures { IsTrue result ↔ WasCut self.now }
+    {
+        match self.cut {
+            Some(cut) => cut.call <= self.calls,
+            None => false,
+        }
+    }
+
+    /// The cut falls at the next call.
+    fn falls_next(&self) -> bool
+        ensures { IsTrue result ↔ FallsNext self.now }
+    {
+        match self.cut {
+            Some(cut) => cut.call == self.next_call() && self.calls < cut.call,
+            None => false,
+        }
+    }
+
+    /// The next call is one of those that are named.
+    fn is_named(&self) -> bool
+        ensures { IsTrue result ↔ IsNamed self.now }
+    {
+        self.failing.as_slice().contains(&self.next_call())
     }
 }

@@ -1,5 +1,5 @@
+//! Tests of the disk in memory, and of a disk that tells nothing.
 use super::*;
-use std::marker::Brand;
 use std::process::Abort;
 use std::test::Fail;
 use sz_base::{Bytes, Calls, Failed, Text};
@@ -115,22 +115,43 @@ fn a_cut_stops_any_call(rt: HostRuntime) -> Result<(), Fail> {
     Ok(())
 }
 
+const MIB: u64 = 1 << 20;
+
+/// Three bytes from a place on.
+fn three(rt: &impl Abort, disk: &mut MemoryDisk, at: u64) -> Result<[u8; 3], Failed> {
+    assert!(rt; at <= disk.size() && 3 <= disk.size() - at);
+    let mut bytes = [9; 3];
+    disk.read(at, &mut bytes)?;
+    Ok(bytes)
+}
+
+// An image of 16 MiB of the byte 7, written in 4,096 pieces on a disk of 32 MiB from the byte 8 Mi on. Choice 2
+// leaves of the ranks 0, 1, 2 the third byte (2), the new one and the old one, and of the last three, whose
+// ranks plus 1 are 2, 0 and 1 mod 3, the new one, the old one and the third byte (2 + 16 Mi - 1 mod 256).
 #[test]
-fn a_disk_of_256_mib_is_used(rt: HostRuntime) -> Result<(), Fail> {
-    const SIZE: u64 = 256 << 20;
-    let mut disk = MemoryDisk::create(rt.alloc(), SIZE)?;
-    assert!(rt; disk.size() == SIZE);
-    disk.write_at(SIZE - 4, &[1, 2, 3, 4])?;
-    disk.sync()?;
-    disk.write_at(SIZE / 2, &[5, 6])?;
-    let mut disk = disk.power_up();
-    assert!(rt; disk.size() == SIZE);
-    let mut end = [9; 4];
-    disk.read(SIZE - 4, &mut end)?;
-    assert_eq!(rt; end, [1, 2, 3, 4]);
-    let mut middle = [9; 2];
-    disk.read(SIZE / 2, &mut middle)?;
-    assert_eq!(rt; middle, [0, 0]);
+fn a_staged_image_is_powered_up(rt: HostRuntime) -> Result<(), Fail> {
+    for (choice, first, last) in [
+        (0, [0, 0, 0], [0, 0, 0]),
+        (1, [7, 7, 7], [7, 7, 7]),
+        (2, [2, 7, 0], [7, 0, 1]),
+    ] {
+        let mut disk = MemoryDisk::create(rt.alloc(), 32 * MIB)?;
+        disk.cut_at(9999, choice);
+        let piece = [7; 4096];
+        for k in 0..4096 {
+            assert!(rt; disk.size() == 32 * MIB);
+            disk.write_at(8 * MIB + k * 4096, &piece)?;
+        }
+        let mut disk = disk.power_up();
+        assert_eq!(rt; three(&rt, &mut disk, 8 * MIB)?, first, "choice {choice}");
+        assert_eq!(rt;
+            three(&rt, &mut disk, 24 * MIB - 3)?,
+            last,
+            "choice {choice}"
+        );
+        assert_eq!(rt; three(&rt, &mut disk, 8 * MIB - 3)?, [0; 3]);
+        assert_eq!(rt; three(&rt, &mut disk, 24 * MIB)?, [0; 3]);
+    }
     Ok(())
 }
 
@@ -148,16 +169,6 @@ fn the_first_disk_of_a_name_is_found(rt: HostRuntime) -> Result<(), Fail> {
     Ok(())
 }
 
-#[test]
-fn the_laws_hold_of_a_disk_in_memory() {
-    keeps_outside();
-    survives_calls::<MemoryDisk, Brand>();
-    reads_what_is_left::<MemoryDisk, Brand>();
-    holds_in_call::<MemoryDisk, Brand>();
-    holds_in_both::<MemoryDisk, Brand>();
-    holds_at_end::<MemoryDisk, Brand>();
-}
-
 /// A disk that tells nothing of what it holds, as a real file does.
 #[derive(Drop)]
 struct UntoldDisk {
@@ -165,29 +176,13 @@ struct UntoldDisk {
 }
 
 impl Disk for UntoldDisk {
-    ghost use Rattle.std.specs.Prelude.{None};
+    ghost use Rattle.std.proofs.Common.{lit<};
+    ghost use Rattle.sz_disk.specs.Disk.{untold};
+    ghost use Rattle.sz_disk.specs.Laws.{lawful_untold};
 
-    ghost reads = { λ _. None };
+    ghost seen = { λ disk. untold disk.faults 8 };
 
-    ghost may_leave = { λ _ _. ⊥ };
-
-    ghost moment = { λ _. 0 };
-
-    ghost left_since = { λ _ _ _. ⊥ };
-
-    ghost faults = { λ disk. disk.faults };
-
-    ghost size_of = { λ _. 8 };
-
-    ghost reads_as_left = { λ disk bytes is. Prim.cc };
-
-    ghost tells_reads = { λ disk image left. absurd left };
-
-    ghost sized = { λ disk image left. absurd left };
-
-    ghost counts_now = { λ disk t image le left. left };
-
-    ghost only_now = { λ disk image left. left };
+    ghost lawful = { λ disk. lawful_untold disk.faults 8 (lit< tt) };
 
     fn size(&self) -> u64 {
         8

@@ -1,15 +1,13 @@
-use Rattle.std.proofs.Common.{arith}
-use Rattle.sz_disk.proofs.Picks.{rank-le, picked-step, picked-all}
+use Rattle.std.proofs.Common.{List, ℕ, sym, subst}
+use Rattle.sz_disk.specs.Event.{written_over, undone}
+use Rattle.sz_disk.specs.Choice.{IsPicked}
+use Rattle.sz_disk.proofs.Undone.{picked-undone}
 use Rattle.sz_disk.proofs.choice.pick.Goals as goal
 
-pub overflow_add-rank : goal.overflow_add-rank
-overflow_add-rank c = omega (arith, rank-le c.args.pending.now c.loop-place.from, c.in-Some.ensures.after, c.in-Some.ensures.within)
-
-pub loop-place-preserved : goal.loop-place-preserved
-loop-place-preserved c =
-    let e = c.picked_byte.ensures in
-    picked-step c.args.choice c.args.pending.now c.loop-place.from c.loop-place.rank c.args.bytes.now c.loop-place.bytes (c.in-Some.place, c.in-Some.old) c.picked_byte.result c.loop-place.invariant c.in-Some.ensures e
-
-pub returns : goal.returns
-returns c =
-    picked-all c.args.choice c.args.pending.now c.loop-place.from c.loop-place.rank c.args.bytes.now c.loop-place.bytes c.loop-place.invariant c.in_default.ensures
+pub returns-in-0 : goal.returns-in-0
+returns-in-0 c =
+    let pending = c.args.pending.now in
+    let bytes = c.args.bytes.now in
+    let P : ℕ → Type 0 = λ choice. IsPicked choice pending (written_over pending) bytes c.undo.new.bytes in
+    let Q : List ℕ → Type 0 = λ image. IsPicked 0 pending (written_over pending) bytes image in
+    subst P (sym c.in-0.is) (subst Q (sym c.undo.ensures) (picked-undone pending bytes c.requires))

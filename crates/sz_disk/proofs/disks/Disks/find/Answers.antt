@@ -10,7 +10,8 @@ pub returns-in-Some : goal.returns-in-Some
 returns-in-Some g c =
     let name = c.args.name.now in
     let entries = c.args.self.now in
-    let e : position (has_name name) entries ≡ Some c.in-Some.place = sym (c.place_of.ensures ∙ ap (position (has_name name)) (c.deref.ensures.value ∙ c.self.view_is)) ∙ c.in-Some.is in
+    let e : position (has_name name) entries ≡ Some c.in-Some.place =
+    sym (c.place_of.ensures ∙ ap (position (has_name name)) (c.deref.ensures.value ∙ c.self.view_is)) ∙ c.in-Some.is in
     let found = found-is name entries c.in-Some.place e in (
       ap (λ f. inl (c.disk_at.result.ghost_name, f)) found.lends,
       record {
@@ -24,7 +25,8 @@ pub returns-in-None : goal.returns-in-None
 returns-in-None g c =
     let name = c.args.name.now in
     let entries = c.args.self.now in
-    let e : position (has_name name) entries ≡ None = sym (c.place_of.ensures ∙ ap (position (has_name name)) (c.deref.ensures.value ∙ c.self.view_is)) ∙ c.in-None.is in (
+    let e : position (has_name name) entries ≡ None =
+    sym (c.place_of.ensures ∙ ap (position (has_name name)) (c.deref.ensures.value ∙ c.self.view_is)) ∙ c.in-None.is in (
       refl,
       record {
         writes_back = tt;
