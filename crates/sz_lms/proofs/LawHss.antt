@@ -137,7 +137,8 @@ hss_ok public message signature s pass =
       key = drop 4 public;
       levels = drop 4 signature;
       public_is = front_number public (suc below) (omega (arith, counted.1)) is_there counted.0;
-      signature_is = front_number signature below (omega (arith, counted.1)) (leb-true 4 (length signature) there.0) (eqb-true (u32_at signature 0) below same.0);
+      signature_is = front_number signature below (omega (arith, counted.1)) (leb-true 4 (length signature) there.0)
+          (eqb-true (u32_at signature 0) below same.0);
       each = levels_ok below (drop 4 public) message (drop 4 signature) (drop_bytes 4 signature s)
           key_size rest.0 rest.1;
     }

@@ -2,8 +2,7 @@
 use Rattle.std.proofs.Common.{◌≡◌, Bool, true, false, cond, List, [], ◌∷◌, ◌++◌, Option, Some, None, sym, refl}
 use Rattle.std.proofs.lemmas.Bool.{false≢true}
 use Rattle.std.proofs.lemmas.Option.{none-some}
-use Rattle.sz_lms.specs.Ots.{OtsType}
-use Rattle.sz_lms.specs.Rules.{Rule, Scheme, first_failing, TreeType, where_known}
+use Rattle.sz_lms.specs.Rules.{Rule, Scheme, first_failing, where_known}
 
 -- no test fails
 abbrev pub Pass : List (Bool × Rule) → Type 0

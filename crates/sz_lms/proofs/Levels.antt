@@ -139,7 +139,9 @@ pub last-below : (n m : ℕ) (key : List ℕ) (type : TreeType) (bytes last rest
 last-below n m key type bytes last rest z e h message =
     climb-next n m key type message bytes z e
     ∙ ap (λ rules. root_rules key (next_key type bytes) bytes ++ rules) (h message)
-    ∙ sym (append_assoc (root_rules key (next_key type bytes) bytes) (upper_climb_rules m (next_key type bytes) (next_bytes type bytes)) (root_rules last message rest))
+    ∙ sym
+    (append_assoc (root_rules key (next_key type bytes) bytes)
+    (upper_climb_rules m (next_key type bytes) (next_bytes type bytes)) (root_rules last message rest))
     ∙ ap (λ rules. rules ++ root_rules last message rest) (sym (upper-next n m key type bytes z e))
 
 pub upper-none : (n : ℕ) (key bytes : List ℕ) → n ≡ 0 → None ≡ first_failing (upper_climb_rules n key bytes)

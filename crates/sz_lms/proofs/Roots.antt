@@ -3,7 +3,6 @@ use Rattle.std.proofs.Common.{◌≡◌, ℕ, zero, suc, ◌+◌, ◌*◌, List,
 use Rattle.std.specs.Str.{bytes_eq}
 use Rattle.std.proofs.lemmas.List.{take-take, drop-take}
 use Rattle.sz_lms.specs.Bits.{values_of}
-use Rattle.sz_lms.specs.Ots.{ots_key}
 use Rattle.sz_lms.specs.Rules.{TreeType, Root, first_failing, root_from, root_of_digest, root_rules, signed_digest, tree_type}
 use Rattle.sz_lms.proofs.RuleLists.{known}
 

@@ -29,7 +29,8 @@ inner_node id r left right = hashed id r D_INTR (left ++ right)
 unfoldable pub climb : List ℕ → ℕ → List ℕ → List (List ℕ) → List ℕ
 climb id r value [] = value
 climb id r value (sibling ∷ path) =
-    climb id (r / 2) (if r % 2 == 0 then inner_node id (r / 2) value sibling else inner_node id (r / 2) sibling value) path
+    climb id (r / 2)
+    (if r % 2 == 0 then inner_node id (r / 2) value sibling else inner_node id (r / 2) sibling value) path
 
 -- an LMS public key: the codes of its types, I and the root T[1] (section 5.3)
 abbrev pub lms_public : ℕ → ℕ → List ℕ → List ℕ → List ℕ
@@ -66,4 +67,5 @@ pub record LmsOk (public message signature : List ℕ) : Type 0 where
   -- and leads from a leaf of the tree to its root
   pub is_leaf : q < 2 ^ height
   pub reaches_root :
-      climb id (2 ^ height + q) (leaf_node id (2 ^ height + q) (ots_key id q type randomizer values message)) path ≡ root
+      climb id (2 ^ height + q)
+      (leaf_node id (2 ^ height + q) (ots_key id q type randomizer values message)) path ≡ root

@@ -26,7 +26,8 @@ impl<'a> HssCheck<'a> {
     /// all but the one on the last level's root.
     pub fn begin(public: &'a [u8], signature: &'a [u8]) -> Result<HssCheck<'a>, HssFault>
         ensures ok { IfOk result (λ check. Checks check public.now signature.now []) }
-        ensures err { IfErr result (λ fault. (message : List ℕ) → hss_first public.now message signature.now ≡ Some (rule_of fault)) }
+        ensures err { IfErr result (λ fault. (message : List ℕ)
+            → hss_first public.now message signature.now ≡ Some (rule_of fault)) }
         ensures first { broken_rule result ≡ first_failing (rules_before_message public.now signature.now) }
     {
         let last = checked_last_level(public, signature)?;

@@ -47,7 +47,8 @@ pub(crate) fn levels_below(public: &[u8], signature: &[u8]) -> Result<u32, HssFa
 pub(crate) fn last_level<'a>(top: &Level<'a>, below: u32) -> Result<Level<'a>, HssFault>
     ensures rules { broken_rule result ≡ first_failing (level_rules below top.now.key.now top.now.bytes.now) }
     ensures last { IfOk result (λ last. (message : List ℕ) → climb_rules below top.now.key.now message top.now.bytes.now
-        ≡ upper_climb_rules below top.now.key.now top.now.bytes.now ++ root_rules last.key.now message last.bytes.now) }
+        ≡ upper_climb_rules below top.now.key.now top.now.bytes.now
+        ++ root_rules last.key.now message last.bytes.now) }
 {
     let mut level = *top;
     for _ in 0..below {

@@ -80,7 +80,8 @@ impl<'a> Level<'a> {
     pub(crate) fn next(&self) -> Result<Level<'a>, HssFault>
         ensures rules { broken_rule result ≡ first_failing (next_rules (types_of self.now.types) self.now.bytes.now) }
         ensures key { IfOk result (λ level. level.key.now ≡ next_key (types_of self.now.types) self.now.bytes.now) }
-        ensures bytes { IfOk result (λ level. level.bytes.now ≡ next_bytes (types_of self.now.types) self.now.bytes.now) }
+        ensures bytes { IfOk result (λ level.
+            level.bytes.now ≡ next_bytes (types_of self.now.types) self.now.bytes.now) }
     {
         let key_place = self.types.signature_length();
         if self.bytes.len() < key_place + KEY_LENGTH {

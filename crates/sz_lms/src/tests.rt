@@ -276,6 +276,23 @@ fn one_tree(rt: HostRuntime) -> Result<(), Fail> {
     assert_eq!(rt; path.len(), 160);
     let root = climb(&id, 63, leaf_node(&id, 63, &key), 5, path);
     assert!(rt; root.as_slice() == public.get(24..).unwrap_or(&[]));
+    Ok(())
+}
+
+// A one-time signature by itself is told its first broken rule too.
+#[test]
+fn one_time_signatures(rt: HostRuntime) -> Result<(), Fail> {
+    let signed = Signed::read(
+        rt.alloc(),
+        LAST_LEAF_PUBLIC,
+        LAST_LEAF_MESSAGE,
+        LAST_LEAF_SIGNATURE,
+    )?;
+    let public = signed.public.as_slice();
+    let one_time = signed.signature.as_slice().get(8..1132).unwrap_or(&[]);
+    let message = signed.message.as_slice();
+    let id = [0; 16];
+    assert!(rt; ots_candidate(&id, 31, one_time, message).is_ok());
     assert_eq!(rt;
         ots_candidate(&id, 31, front(one_time, 1123), message),
         Err(HssFault::Length)

@@ -50,7 +50,8 @@ pub fn ots_candidate(
 ) -> Result<[u8; 32], HssFault>
     ensures first { broken_rule result ≡ first_failing (ots_rules signature.now) }
     ensures key { IfOk result (λ key.
-        option_map (λ type. ots_key_at id.now leaf type signature.now message.now) (ots_type (u32_at signature.now 0)) ≡ Some key) }
+        option_map (λ type. ots_key_at id.now leaf type signature.now message.now) (ots_type (u32_at signature.now 0))
+        ≡ Some key) }
 {
     let kind = one_time_type(signature)?;
     let digest = message_digest(id, leaf, &signature[4..36], message);

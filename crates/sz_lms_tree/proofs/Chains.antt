@@ -28,8 +28,19 @@ IsBit bit = bit < 2
 AreBits-of_bytes : (bytes : List ℕ) → AllByRecursion IsBit (flat_map bits_of_byte bytes)
 AreBits-of_bytes [] = tt
 AreBits-of_bytes (byte ∷ bytes) =
-    let bit : (n : ℕ) → n % 2 < 2 = λ n. omega arith in
-    (bit (byte / 128), (bit (byte / 64), (bit (byte / 32), (bit (byte / 16), (bit (byte / 8), (bit (byte / 4), (bit (byte / 2), (bit byte, AreBits-of_bytes bytes))))))))
+    let bit : (n : ℕ) → n % 2 < 2 = λ n. omega arith in (
+      bit (byte / 128),
+      (
+        bit (byte / 64),
+        (
+          bit (byte / 32),
+          (
+            bit (byte / 16),
+            (bit (byte / 8), (bit (byte / 4), (bit (byte / 2), (bit byte, AreBits-of_bytes bytes)))),
+          ),
+        ),
+      ),
+    )
 
 number-below : (bits : List ℕ) (before : ℕ) → AllByRecursion IsBit bits → fold (λ number bit. 2 * number + bit) before bits + 1 ≤ (before + 1) * 2 ^ length bits
 number-below [] before small = omega arith
@@ -56,12 +67,15 @@ digit-below w bytes i =
 abbrev pub values_at : List ℕ → ℕ → (ℕ → List ℕ) → (ℕ → ℕ) → ℕ → ℕ → List (List ℕ)
 values_at id q start steps a n = map (λ i. chain id q i 0 (steps i) (start i)) (range_with_len a n)
 
-pub AreValues-at : (id : List ℕ) (q : ℕ) (start : ℕ → List ℕ) (steps : ℕ → ℕ) (a n : ℕ) → ((i : ℕ) → length (start i) ≡ 32) → AreValues n (values_at id q start steps a n)
+pub AreValues-at : (id : List ℕ) (q : ℕ) (start : ℕ → List ℕ) (steps : ℕ → ℕ) (a n : ℕ)
+    → ((i : ℕ) → length (start i) ≡ 32) → AreValues n (values_at id q start steps a n)
 AreValues-at id q start steps a n long =
     (length-map-range_with_len _ a n, All-map (λ value. length value ≡ 32) _ (range_with_len a n) (λ k d at. length-chain id q _ _ 0 _ (long _)))
 
 -- what is taken up at its digit ends where the chain ends
-pub chain_ends-at : (id : List ℕ) (q w : ℕ) (signed : List ℕ) (start : ℕ → List ℕ) (n a : ℕ) → chain_ends id q w signed a (values_at id q start (digit w signed) a n) ≡ values_at id q start (λ i. 2 ^ w - 1) a n
+pub chain_ends-at : (id : List ℕ) (q w : ℕ) (signed : List ℕ) (start : ℕ → List ℕ) (n a : ℕ)
+    → chain_ends id q w signed a (values_at id q start (digit w signed) a n)
+    ≡ values_at id q start (λ i. 2 ^ w - 1) a n
 unfolding chain_ends
 chain_ends-at id q w signed start zero a = refl
 chain_ends-at id q w signed start (suc n) a =

@@ -6,7 +6,9 @@ use Rattle.sz_lms.specs.Lms.{climb, inner_node}
 use Rattle.sz_lms_tree.specs.Tree.{TreeSecret, node_of, sibling}
 
 -- a node and its sibling give the node above them
-above : (secret : TreeSecret) (n r : ℕ) → cond (eqb (r % 2) 0) (inner_node secret.id (r / 2) (node_of secret n r) (node_of secret n (sibling r))) (inner_node secret.id (r / 2) (node_of secret n (sibling r)) (node_of secret n r)) ≡ node_of secret (suc n) (r / 2)
+above : (secret : TreeSecret) (n r : ℕ)
+    → cond (eqb (r % 2) 0) (inner_node secret.id (r / 2) (node_of secret n r) (node_of secret n (sibling r)))
+    (inner_node secret.id (r / 2) (node_of secret n (sibling r)) (node_of secret n r)) ≡ node_of secret (suc n) (r / 2)
 unfolding node_of
 above secret n r =
     let children = λ (a b : ℕ). inner_node secret.id (r / 2) (node_of secret n a) (node_of secret n b) in
@@ -24,7 +26,9 @@ above secret n r =
     ]
 
 -- From node r, at height n above the leaves on the way up from a leaf, k siblings on.
-pub climb-path : (secret : TreeSecret) (leaf k n r : ℕ) → r ≡ leaf / 2 ^ n → climb secret.id r (node_of secret n r) (map (λ m. node_of secret m (sibling (leaf / 2 ^ m))) (range_with_len n k)) ≡ node_of secret (n + k) (leaf / 2 ^ (n + k))
+pub climb-path : (secret : TreeSecret) (leaf k n r : ℕ) → r ≡ leaf / 2 ^ n
+    → climb secret.id r (node_of secret n r) (map (λ m. node_of secret m (sibling (leaf / 2 ^ m))) (range_with_len n k))
+    ≡ node_of secret (n + k) (leaf / 2 ^ (n + k))
 unfolding climb
 climb-path secret leaf zero n r at = rw (add-zero n, at) refl
 climb-path secret leaf (suc k) n r at =

@@ -14,7 +14,9 @@ KeepsFrom-none secret = record {
   each = λ n r d at le. absurd (omega (arith, IsNodeAt-small secret.height n r at));
 }
 
-pub KeepsFrom-more : (secret : TreeSecret) (low : ℕ) (nodes : List (List ℕ)) (value : List ℕ) → KeepsFrom (low + 1) secret nodes → ((n : ℕ) → IsNodeAt secret.height n low → value ≡ node_of secret n low) → KeepsFrom low secret (nodes ++ value ∷ [])
+pub KeepsFrom-more : (secret : TreeSecret) (low : ℕ) (nodes : List (List ℕ)) (value : List ℕ)
+    → KeepsFrom (low + 1) secret nodes → ((n : ℕ) → IsNodeAt secret.height n low → value ≡ node_of secret n low)
+    → KeepsFrom low secret (nodes ++ value ∷ [])
 KeepsFrom-more secret low nodes value kept is = record {
   count = omega (arith, length_push nodes value, kept.count);
   each = λ n r d at le. elim (cases_lt low r) [
@@ -30,7 +32,9 @@ KeepsFrom-more secret low nodes value kept is = record {
 }
 
 -- leaf q
-pub KeepsFrom-leaf : (secret : TreeSecret) (q : ℕ) (nodes : List (List ℕ)) → KeepsFrom (2 ^ secret.height + q + 1) secret nodes → KeepsFrom (2 ^ secret.height + q) secret (nodes ++ leaf_of secret q ∷ [])
+pub KeepsFrom-leaf : (secret : TreeSecret) (q : ℕ) (nodes : List (List ℕ))
+    → KeepsFrom (2 ^ secret.height + q + 1) secret nodes
+    → KeepsFrom (2 ^ secret.height + q) secret (nodes ++ leaf_of secret q ∷ [])
 unfolding node_of
 KeepsFrom-leaf secret q nodes kept =
     KeepsFrom-more secret (2 ^ secret.height + q) nodes (leaf_of secret q) kept
@@ -40,7 +44,10 @@ KeepsFrom-leaf secret q nodes kept =
     rw bottom (ap (leaf_of secret) leaf))
 
 -- inner node r, over its children among the nodes
-pub inner-is : (secret : TreeSecret) (r : ℕ) (nodes : List (List ℕ)) → KeepsFrom (r + 1) secret nodes → 0 < r → r < 2 ^ secret.height → (d e : List ℕ) (n : ℕ) → IsNodeAt secret.height n r → inner_node secret.id r (get_or nodes (place_of secret (2 * r)) d) (get_or nodes (place_of secret (2 * r + 1)) e) ≡ node_of secret n r
+pub inner-is : (secret : TreeSecret) (r : ℕ) (nodes : List (List ℕ)) → KeepsFrom (r + 1) secret nodes → 0 < r
+    → r < 2 ^ secret.height → (d e : List ℕ) (n : ℕ) → IsNodeAt secret.height n r
+    → inner_node secret.id r (get_or nodes (place_of secret (2 * r)) d) (get_or nodes (place_of secret (2 * r + 1)) e)
+    ≡ node_of secret n r
 unfolding node_of
 inner-is secret r nodes kept positive inner d e zero at =
     let whole : secret.height - 0 ≡ secret.height = omega arith in
@@ -55,12 +62,15 @@ inner-is secret r nodes kept positive inner d e (suc n) at =
 abbrev pub sibling_at : TreeSecret → ℕ → ℕ → ℕ
 sibling_at secret q n = sibling ((2 ^ secret.height + q) / 2 ^ n)
 
-pub place-sibling : (secret : TreeSecret) (nodes : List (List ℕ)) (q n : ℕ) → IsKept secret nodes → n < secret.height → q < 2 ^ secret.height → place_of secret (sibling_at secret q n) < length nodes
+pub place-sibling : (secret : TreeSecret) (nodes : List (List ℕ)) (q n : ℕ) → IsKept secret nodes → n < secret.height
+    → q < 2 ^ secret.height → place_of secret (sibling_at secret q n) < length nodes
 place-sibling secret nodes q n kept lt leaf =
     let at = IsNodeAt-sibling secret.height q n lt leaf in
     omega (arith, kept.all.count, at.first, pow_pos (secret.height - n))
 
-pub kept-sibling : (secret : TreeSecret) (nodes : List (List ℕ)) (q n : ℕ) (d : List ℕ) → IsKept secret nodes → n < secret.height → q < 2 ^ secret.height → get_or nodes (place_of secret (sibling_at secret q n)) d ≡ node_of secret n (sibling_at secret q n)
+pub kept-sibling : (secret : TreeSecret) (nodes : List (List ℕ)) (q n : ℕ) (d : List ℕ) → IsKept secret nodes
+    → n < secret.height → q < 2 ^ secret.height
+    → get_or nodes (place_of secret (sibling_at secret q n)) d ≡ node_of secret n (sibling_at secret q n)
 kept-sibling secret nodes q n d kept lt leaf =
     let at = IsNodeAt-sibling secret.height q n lt leaf in
     kept.all.each n (sibling_at secret q n) d at (omega (arith, at.first, pow_pos (secret.height - n)))

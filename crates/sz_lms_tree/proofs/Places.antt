@@ -63,7 +63,8 @@ IsNodeAt-sibling height q n lt leaf =
 pub bit_xor-one : (r : ℕ) → bit_xor r 1 ≡ sibling r
 bit_xor-one r =
     let parts : r ≡ r / 2 * 2 ^ 1 + r % 2 = omega arith in
-    let split : bit_xor (r / 2 * 2 ^ 1 + r % 2) 1 ≡ bit_xor (r / 2) 0 * 2 ^ 1 + bit_xor (r % 2) 1 = xor_block 1 (r / 2) 0 (r % 2) 1 (omega arith) (omega arith) in
+    let split : bit_xor (r / 2 * 2 ^ 1 + r % 2) 1 ≡ bit_xor (r / 2) 0 * 2 ^ 1 + bit_xor (r % 2) 1 =
+    xor_block 1 (r / 2) 0 (r % 2) 1 (omega arith) (omega arith) in
     let high : bit_xor (r / 2) 0 ≡ r / 2 = xor_zero_r (r / 2) in
     let all = ap (λ (k : ℕ). bit_xor k 1) parts ∙ split in
     elim (cases_eq (r % 2) 0) [

@@ -28,7 +28,8 @@ AreValues-path_of secret q =
     (length-map-range_with_len _ 0 secret.height, All-map (λ value. length value ≡ 32) _ (range_with_len 0 secret.height) (λ k d at. length-node_of secret _ _))
 
 -- the chains, as they stand in the lemmas on chains
-chain_values-is : (secret : TreeSecret) (q : ℕ) (steps : ℕ → ℕ) → chain_values secret q steps ≡ values_at secret.id q (secret_value secret q) steps 0 (ots_of secret.width).chains
+chain_values-is : (secret : TreeSecret) (q : ℕ) (steps : ℕ → ℕ)
+    → chain_values secret q steps ≡ values_at secret.id q (secret_value secret q) steps 0 (ots_of secret.width).chains
 unfolding chain_value
 chain_values-is secret q steps = refl
 
@@ -37,7 +38,9 @@ AreValues-chain_values secret q steps =
     rw (chain_values-is secret q steps) (AreValues-at secret.id q (secret_value secret q) steps 0 _ (λ i. length-sha256 _))
 
 -- the signed chains, taken up at their digits, lead to the one-time public key
-key-of_chain_values : (secret : TreeSecret) (q w : ℕ) (signed : List ℕ) → w ≡ secret.width → key_of_ends secret.id q (chain_ends secret.id q w signed 0 (chain_values secret q (digit secret.width signed))) ≡ one_time_key secret q
+key-of_chain_values : (secret : TreeSecret) (q w : ℕ) (signed : List ℕ) → w ≡ secret.width
+    → key_of_ends secret.id q (chain_ends secret.id q w signed 0 (chain_values secret q (digit secret.width signed)))
+    ≡ one_time_key secret q
 unfolding one_time_key
 key-of_chain_values secret q w signed width_is =
     let chains = (ots_of secret.width).chains in
@@ -46,7 +49,9 @@ key-of_chain_values secret q w signed width_is =
     let end = chain_values-is secret q (λ i. 2 ^ secret.width - 1) in
     rw width_is (ap (key_of_ends secret.id q) (ap (chain_ends secret.id q secret.width signed 0) start ∙ ends ∙ sym end))
 
-ots_key-signed : (secret : TreeSecret) (q : ℕ) (message : List ℕ) → (ots_of secret.width).width ≡ secret.width → ots_key secret.id q (ots_of secret.width) (randomizer_of secret q) (chain_values secret q (digit secret.width (signed_of secret q message))) message ≡ one_time_key secret q
+ots_key-signed : (secret : TreeSecret) (q : ℕ) (message : List ℕ) → (ots_of secret.width).width ≡ secret.width
+    → ots_key secret.id q (ots_of secret.width) (randomizer_of secret q) (chain_values secret q (digit secret.width (signed_of secret q message))) message
+    ≡ one_time_key secret q
 unfolding ots_key
 ots_key-signed secret q message width_is = key-of_chain_values secret q _ (signed_of secret q message) width_is
 
@@ -60,7 +65,8 @@ reaches secret q is_leaf =
     let up = climb-path secret (whole + q) secret.height 0 (whole + q) itself in
     rw (leaf, zero-add, top) at up
 
-pub verifies : (secret : TreeSecret) (q : ℕ) (message : List ℕ) → IsAllowed secret → length secret.id ≡ 16 → q < 2 ^ secret.height → LmsOk (public_of secret) message (signature_of secret q message)
+pub verifies : (secret : TreeSecret) (q : ℕ) (message : List ℕ) → IsAllowed secret → length secret.id ≡ 16
+    → q < 2 ^ secret.height → LmsOk (public_of secret) message (signature_of secret q message)
 unfolding leaf_of signature_of one_time_of
 verifies secret q message allowed id_length is_leaf =
     let known = known_width secret.width allowed.width in
@@ -86,5 +92,6 @@ verifies secret q message allowed id_length is_leaf =
       path_is = AreValues-path_of secret q;
       signature_is = refl;
       is_leaf = is_leaf;
-      reaches_root = ap (λ (k : List ℕ). climb secret.id (2 ^ secret.height + q) (leaf_node secret.id (2 ^ secret.height + q) k) (path_of secret q)) key ∙ reaches secret q is_leaf;
+      reaches_root = ap (λ (k : List ℕ). climb secret.id (2 ^ secret.height + q) (leaf_node secret.id (2 ^ secret.height + q) k) (path_of secret q)) key
+          ∙ reaches secret q is_leaf;
     }

@@ -10,7 +10,8 @@ place_of secret r = 2 * 2 ^ secret.height - 1 - r
 -- the nodes from this number on are kept
 pub record KeepsFrom (low : ℕ) (secret : TreeSecret) (nodes : List (List ℕ)) : Type 0 where
   pub count : length nodes + low ≡ 2 * 2 ^ secret.height
-  pub each : (n r : ℕ) (d : List ℕ) → IsNodeAt secret.height n r → low ≤ r → slice_index_or nodes (place_of secret r) d ≡ node_of secret n r
+  pub each : (n r : ℕ) (d : List ℕ) → IsNodeAt secret.height n r → low ≤ r
+      → slice_index_or nodes (place_of secret r) d ≡ node_of secret n r
 
 -- all nodes of an allowed tree are kept
 pub record IsKept (secret : TreeSecret) (nodes : List (List ℕ)) : Type 0 where

@@ -51,7 +51,12 @@ randomizer_of secret q = secret_value secret q 0xFFFD
 -- the tree that hangs below the leaf
 abbrev pub child_of : TreeSecret → ℕ → ℕ → ℕ → TreeSecret
 child_of secret q height width =
-    record { seed = secret_value secret q 0xFFFE; id = take 16 (secret_value secret q 0xFFFF); height = height; width = width }
+    record {
+      seed = secret_value secret q 0xFFFE;
+      id = take 16 (secret_value secret q 0xFFFF);
+      height = height;
+      width = width;
+    }
 
 -- chain i after n steps from its start, the secret value
 unfoldable pub chain_value : TreeSecret → ℕ → ℕ → ℕ → List ℕ

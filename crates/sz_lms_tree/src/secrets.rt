@@ -102,8 +102,8 @@ pub(crate) fn chain_value(secret: &Secret, q: u32, i: u16, steps: u8) -> [u8; 32
     run_chain(&secret.id, q, i, 0, steps, &secret_value(secret, q, i))
 }
 
-/// The secret of the tree that hangs below leaf `q`, which counts from 0. The height and the width are taken as they are: a tree is
-/// made of the answer only where they are among those of `Secret`. Takes no memory.
+/// The secret of the tree that hangs below leaf `q`, which counts from 0. The height and the width are taken as
+/// they are: a tree is made of the answer only where they are among those of `Secret`. Takes no memory.
 pub fn child(secret: &Secret, q: u32, height: u8, width: u8) -> Secret
     ensures { tree_secret result ≡ child_of (tree_secret secret.now) q height width }
 {

@@ -53,8 +53,8 @@ impl Tree {
         self.nodes[node_place(&self.secret, 1)]
     }
 
-    /// What leaf `q`, which counts from 0, signs the message with (RFC 8554 section 5.4): the same bytes for the same secret, `q` and
-    /// message. Each leaf is to sign one message only; the tree does not keep count.
+    /// What leaf `q`, which counts from 0, signs the message with (RFC 8554 section 5.4): the same bytes for the
+    /// same secret, `q` and message. Each leaf is to sign one message only; the tree does not keep count.
     pub fn sign_leaf(&self, alloc: Global, q: u32, message: &[u8]) -> Result<Bytes, OutOfMemory>
         requires { q < 2 ^ self.now.height }
         ensures exact { IfOk result (λ signature. signature ≡ signature_of self.now q message.now) }

@@ -23,7 +23,8 @@ pub loop-four-preserved : goal.loop-four-preserved
 loop-four-preserved c =
     let fits : (c.in-Some-group_size.size ≡ 3) ⊎ (c.in-Some.after.now ≡ []) =
     elim c.else-size-ne-WHOLE_GROUP.branch [
-      | else-size-ne-WHOLE_GROUP-via-then-size-ne-WHOLE_GROUP+else-not-is_empty w ↦ inr (grind (arith, common_steps, w.is_empty.ensures, w.if-not-is_empty.false))
+      | else-size-ne-WHOLE_GROUP-via-then-size-ne-WHOLE_GROUP+else-not-is_empty w ↦
+          inr (grind (arith, common_steps, w.is_empty.ensures, w.if-not-is_empty.false))
       | else-size-ne-WHOLE_GROUP-via-else-size-ne-WHOLE_GROUP w ↦ inl w.if-size-ne-WHOLE_GROUP.false
     ] in
     let on = goes_on c.loop-four.rest.now c.in-Some.four.now c.in-Some.after.now c.in-Some-group_size.size c.in-Some.ensures.cases

@@ -36,4 +36,5 @@ returns c =
     let here = c.loop-j in
     let none : c.args.to - here.j ≡ 0 = omega arith in
     let whole : length (drop 23 here.input) ≡ 32 = omega (arith, here.invariant.size, length-drop 23 here.input) in
-    c.copy_from_slice.ensures.after ∙ rw (← whole) (take-length (drop 23 here.input)) ∙ sym (chain-done c.args.id.now c.args.q c.args.index here.j _ (drop 23 here.input) none) ∙ here.invariant.ahead
+    c.copy_from_slice.ensures.after ∙ rw (← whole) (take-length (drop 23 here.input))
+    ∙ sym (chain-done c.args.id.now c.args.q c.args.index here.j _ (drop 23 here.input) none) ∙ here.invariant.ahead

@@ -27,12 +27,14 @@ loop-preserved c =
     record {
       left =
           here.invariant.left
-          ∙ next-passes (c.args.below - here.counter) (c.args.below - (here.counter + 1)) here.level.key.now (types_of here.level.types) here.level.bytes.now more
+          ∙ next-passes (c.args.below - here.counter) (c.args.below - (here.counter + 1)) here.level.key.now
+          (types_of here.level.types) here.level.bytes.now more
           here.level.in_order.known here.level.in_order.in_order (sym next.ensures.rules)
           ∙ rw (next.ensures.key, next.ensures.bytes) refl;
       last = λ last rest h.
           here.invariant.last last rest
-          (last-below (c.args.below - here.counter) (c.args.below - (here.counter + 1)) here.level.key.now (types_of here.level.types) here.level.bytes.now last rest more
+          (last-below (c.args.below - here.counter) (c.args.below - (here.counter + 1)) here.level.key.now
+          (types_of here.level.types) here.level.bytes.now last rest more
           here.level.in_order.known (rw (next.ensures.key, next.ensures.bytes) at h));
     }
 
@@ -44,7 +46,8 @@ returns-in_err-check_end-clause-rules c =
     rw (p.1, p.2)
     (c.in_err-check_end.ensures
     ∙ sym (here.invariant.left
-    ∙ level-last (c.args.below - here.counter) here.level.key.now (types_of here.level.types) here.level.bytes.now none here.level.in_order.known here.level.in_order.in_order))
+    ∙ level-last (c.args.below - here.counter) here.level.key.now (types_of here.level.types) here.level.bytes.now none
+    here.level.in_order.known here.level.in_order.in_order))
 
 pub returns-clause-rules : goal.returns-clause-rules
 returns-clause-rules c =
@@ -52,7 +55,8 @@ returns-clause-rules c =
     let none : c.args.below - here.counter ≡ 0 = omega arith in
     c.in_ok-check_end.ensures
     ∙ sym (here.invariant.left
-    ∙ level-last (c.args.below - here.counter) here.level.key.now (types_of here.level.types) here.level.bytes.now none here.level.in_order.known here.level.in_order.in_order)
+    ∙ level-last (c.args.below - here.counter) here.level.key.now (types_of here.level.types) here.level.bytes.now none
+    here.level.in_order.known here.level.in_order.in_order)
 
 pub returns-clause-last : goal.returns-clause-last
 returns-clause-last c =

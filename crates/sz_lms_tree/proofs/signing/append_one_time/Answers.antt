@@ -12,7 +12,8 @@ pub returns : goal.returns
 unfolding one_time_of
 returns c =
     let secret = tree_secret c.args.secret.now in
-    let digest = c.message_digest-digest.ensures ∙ ap (λ (r : List ℕ). message_digest secret.id c.args.q r c.args.message.now) c.randomizer-randomizer.ensures in
+    let digest = c.message_digest-digest.ensures
+    ∙ ap (λ (r : List ℕ). message_digest secret.id c.args.q r c.args.message.now) c.randomizer-randomizer.ensures in
     let signed : c.signed_bytes-signed.result ≡ signed_of secret c.args.q c.args.message.now =
     c.signed_bytes-signed.ensures ∙ ap₂ (λ (t : OtsType) (bytes : List ℕ). signed_bytes t bytes) c.one_time_type.ensures digest in
     OnOk-then c.append_chains.result _ _

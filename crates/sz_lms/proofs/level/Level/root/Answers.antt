@@ -8,7 +8,8 @@ pub key_of_digest-key-requires : goal.key_of_digest-key-requires
 key_of_digest-key-requires c =
     let level = c.args.self.now in
     let bytes = level.bytes.now in
-    omega (arith, level.in_order.whole, ap length c.values.ensures, length-take (32 * (types_of level.types).ots.chains) (drop 36 (drop 4 bytes)), length-drop 36 (drop 4 bytes), length-drop 4 bytes)
+    let size = length-take (32 * (types_of level.types).ots.chains) (drop 36 (drop 4 bytes)) in
+    omega (arith, level.in_order.whole, ap length c.values.ensures, size, length-drop 36 (drop 4 bytes), length-drop 4 bytes)
 
 pub returns : goal.returns
 returns c =
