@@ -1,6 +1,6 @@
 //! Servers to connect to, and the reader of their texts.
 
-ghost use Rattle.std.specs.Prelude.{◌≡◌, ◌≢◌, ◌<◌, ◌↔◌, ℕ, length, slice_index, IfOk, IfSome, IfNone};
+ghost use Rattle.std.specs.Prelude.{◌≡◌, ◌≢◌, ◌<◌, ℕ, length, slice_index, IfOk, IfSome, IfNone};
 ghost use Rattle.sz_base.specs.Byte.{IsLastColon};
 ghost use Rattle.sz_base.specs.Reading.{ReadsValue};
 

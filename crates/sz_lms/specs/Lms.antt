@@ -32,6 +32,9 @@ climb id r value (sibling ∷ path) =
     climb id (r / 2)
     (if r % 2 == 0 then inner_node id (r / 2) value sibling else inner_node id (r / 2) sibling value) path
 
+abbrev pub lms_public_length : ℕ
+lms_public_length = 56
+
 -- an LMS public key: the codes of its types, I and the root T[1] (section 5.3)
 abbrev pub lms_public : ℕ → ℕ → List ℕ → List ℕ → List ℕ
 lms_public tree_code ots_code id root = to_be_bytes w32 tree_code ++ to_be_bytes w32 ots_code ++ id ++ root

@@ -2,6 +2,7 @@
 -- and the order of the rules is in Rules.
 use Rattle.std.specs.Prelude.{◌≡◌, ℕ, zero, suc, ◌+◌, ◌-◌, ◌^◌, ◌<◌, ◌≤◌, nat_le, Bool, List, [], ◌∷◌, ◌++◌, length, take, drop, Some, None}
 use Rattle.sz_lms.specs.Bits.{u32_at}
+use Rattle.sz_lms.specs.Lms.{lms_public_length}
 use Rattle.sz_lms.specs.Ots.{message_head}
 use Rattle.sz_lms.specs.Rules.{Rule, Length, TreeType, first_failing, head_rules, level_rules, lms_length, next_bytes, next_key, root_rules, signature_rules, tree_type, where_known}
 use Rattle.sz_lms.specs.View.{types_of}
@@ -14,7 +15,8 @@ front_rules key bytes = where_known (tree_type key) (λ type. signature_rules ke
 -- on the key behind an LMS signature, and on the LMS signature behind that key
 abbrev pub next_rules : TreeType → List ℕ → List (Bool × Rule)
 next_rules type bytes =
-    (nat_le (lms_length type + 56) (length bytes), Length) ∷ front_rules (next_key type bytes) (next_bytes type bytes)
+    (nat_le (lms_length type + lms_public_length) (length bytes), Length)
+    ∷ front_rules (next_key type bytes) (next_bytes type bytes)
 
 -- those of the levels above the last, whose signatures are of keys
 unfoldable pub upper_climb_rules : ℕ → List ℕ → List ℕ → List (Bool × Rule)
@@ -38,7 +40,7 @@ signed_head key bytes = message_head (take 16 (drop 8 key)) (u32_at bytes 0) (ta
 
 -- The bytes begin with an LMS signature whose lengths, types and leaf number are in order under the key.
 pub record IsLevel (key bytes : List ℕ) (types : KeyTypes) : Type 0 where
-  pub key_length : length key ≡ 56
+  pub key_length : length key ≡ lms_public_length
   pub known : tree_type key ≡ Some (types_of types)
   pub whole : lms_length (types_of types) ≤ length bytes
   pub is_leaf : u32_at bytes 0 < 2 ^ (types_of types).height

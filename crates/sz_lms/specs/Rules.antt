@@ -5,7 +5,8 @@ use Rattle.std.specs.Option.{is_some}
 use Rattle.std.specs.Str.{bytes_eq}
 use Rattle.sz_lms.specs.Bits.{u32_at, values_of}
 use Rattle.sz_lms.specs.Ots.{OtsType, ots_type, ots_key, key_of_digest, message_digest}
-use Rattle.sz_lms.specs.Lms.{height_of, leaf_node, climb}
+use Rattle.sz_lms.specs.Lms.{height_of, leaf_node, climb, lms_public_length}
+use Rattle.sz_lms.specs.Hss.{hss_public_length, most_levels}
 
 -- what a rule speaks of
 pub data Rule : Type 0 where
@@ -99,7 +100,7 @@ root_rules key message bytes =
 -- on a signature of one level
 unfoldable pub lms_rules : List ℕ → List ℕ → List ℕ → List (Bool × Rule)
 lms_rules public message signature =
-    (length public == 56, Length)
+    (length public == lms_public_length, Length)
     ∷ where_known (tree_type public) (λ type.
     signature_rules public type signature
     ++ (length signature == lms_length type, Length)
@@ -109,10 +110,10 @@ lms_rules public message signature =
 
 -- the key that stands behind an LMS signature, and the bytes behind that key
 abbrev pub next_key : TreeType → List ℕ → List ℕ
-next_key type bytes = take 56 (drop (lms_length type) bytes)
+next_key type bytes = take lms_public_length (drop (lms_length type) bytes)
 
 abbrev pub next_bytes : TreeType → List ℕ → List ℕ
-next_bytes type bytes = drop (lms_length type + 56) bytes
+next_bytes type bytes = drop (lms_length type + lms_public_length) bytes
 
 -- lengths, types and leaf numbers, from the front: n more levels stand below this key
 unfoldable pub level_rules : ℕ → List ℕ → List ℕ → List (Bool × Rule)
@@ -120,7 +121,7 @@ level_rules zero key bytes = where_known (tree_type key) (λ type.
     signature_rules key type bytes ++ (length bytes == lms_length type, Length) ∷ [])
 level_rules (suc n) key bytes = where_known (tree_type key) (λ type.
     signature_rules key type bytes
-    ++ (nat_le (lms_length type + 56) (length bytes), Length)
+    ++ (nat_le (lms_length type + lms_public_length) (length bytes), Length)
     ∷ level_rules n (next_key type bytes) (next_bytes type bytes))
 
 -- then the ways up to the roots, from the front
@@ -134,8 +135,8 @@ climb_rules (suc n) key message bytes = where_known (tree_type key) (λ type.
 abbrev pub head_rules : List ℕ → List ℕ → List (Bool × Rule)
 head_rules public signature =
     let levels = u32_at public 0 in
-    (length public == 60, Length)
-    ∷ (nat_le 1 levels && nat_le levels 8, Levels)
+    (length public == hss_public_length, Length)
+    ∷ (nat_le 1 levels && nat_le levels most_levels, Levels)
     ∷ (is_some (tree_type (drop 4 public)), Scheme)
     ∷ (nat_le 4 (length signature), Length)
     ∷ (u32_at signature 0 == levels - 1, Levels)

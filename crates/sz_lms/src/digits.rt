@@ -1,6 +1,6 @@
 //! The digits that a one-time signature runs its chains by (RFC 8554 sections 3.1.3 and 4.4).
 
-ghost use Rattle.std.specs.Prelude.{◌≡◌, ◌+◌, ◌-◌, ◌*◌, ◌/◌, ◌%◌, ◌^◌, ◌<◌, ◌≤◌, ◌++◌, length};
+ghost use Rattle.std.specs.Prelude.{◌≡◌, ◌+◌, ◌-◌, ◌*◌, ◌/◌, ◌%◌, ◌^◌, ◌<◌};
 ghost use Rattle.sz_lms.specs.Bits.{digit};
 ghost use Rattle.sz_lms.specs.Ots.{checksum, signed_bytes};
 ghost use Rattle.sz_lms.specs.View.{facts_of};

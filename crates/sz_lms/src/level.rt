@@ -1,6 +1,6 @@
 //! One level of a signature (RFC 8554 section 5.4.2).
 
-ghost use Rattle.std.specs.Prelude.{◌≡◌, ◌+◌, ◌*◌, ◌^◌, ◌<◌, ◌≤◌, ◌==◌, ◌++◌, ℕ, List, [], ◌∷◌, length, drop, take, OnOk, IfOk};
+ghost use Rattle.std.specs.Prelude.{◌≡◌, ◌+◌, ◌*◌, ◌^◌, ◌<◌, ◌≤◌, ◌==◌, ℕ, List, [], ◌∷◌, length, drop, take, OnOk, IfOk};
 ghost use Rattle.sha2.specs.Hashers.{Holds256};
 ghost use Rattle.sz_lms.specs.Bits.{u32_at};
 ghost use Rattle.sz_lms.specs.Parts.{IsLevel, front_rules, next_rules, signed_head};

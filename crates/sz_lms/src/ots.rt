@@ -1,6 +1,6 @@
 //! The key that a one-time signature leads to (RFC 8554 section 4.6).
 
-ghost use Rattle.std.specs.Prelude.{◌≡◌, ◌+◌, ◌-◌, ◌*◌, ◌^◌, ◌<◌, ◌++◌, length, take, drop};
+ghost use Rattle.std.specs.Prelude.{◌≡◌, ◌-◌, ◌*◌, ◌^◌, ◌<◌, length, take, drop};
 ghost use Rattle.sz_lms.specs.Bits.{digit, values_of};
 ghost use Rattle.sz_lms.specs.Ots.{chain, key_of_digest, message_digest};
 ghost use Rattle.sz_lms.specs.View.{facts_of};

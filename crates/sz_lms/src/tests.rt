@@ -243,15 +243,20 @@ fn head_rules(rt: HostRuntime) -> Result<(), Fail> {
     Ok(())
 }
 
-// One level alone, and its one-time signature: a single tree's key and signature stand in those of one level.
-#[test]
-fn one_tree(rt: HostRuntime) -> Result<(), Fail> {
-    let signed = Signed::read(
-        rt.alloc(),
+// A signature of the last leaf of a tree.
+fn last_leaf(alloc: Global) -> Result<Signed, AllocError> {
+    Signed::read(
+        alloc,
         LAST_LEAF_PUBLIC,
         LAST_LEAF_MESSAGE,
         LAST_LEAF_SIGNATURE,
-    )?;
+    )
+}
+
+// One level alone, and its one-time signature: a single tree's key and signature stand in those of one level.
+#[test]
+fn one_tree(rt: HostRuntime) -> Result<(), Fail> {
+    let signed = last_leaf(rt.alloc())?;
     let public = signed.public.as_slice().get(4..).unwrap_or(&[]);
     let signature = signed.signature.as_slice().get(4..).unwrap_or(&[]);
     let message = signed.message.as_slice();
@@ -282,12 +287,7 @@ fn one_tree(rt: HostRuntime) -> Result<(), Fail> {
 // A one-time signature by itself is told its first broken rule too.
 #[test]
 fn one_time_signatures(rt: HostRuntime) -> Result<(), Fail> {
-    let signed = Signed::read(
-        rt.alloc(),
-        LAST_LEAF_PUBLIC,
-        LAST_LEAF_MESSAGE,
-        LAST_LEAF_SIGNATURE,
-    )?;
+    let signed = last_leaf(rt.alloc())?;
     let public = signed.public.as_slice();
     let one_time = signed.signature.as_slice().get(8..1132).unwrap_or(&[]);
     let message = signed.message.as_slice();

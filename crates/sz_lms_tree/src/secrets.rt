@@ -1,6 +1,6 @@
 //! What a tree is made from, and all that is made from it below a leaf.
 
-ghost use Rattle.std.specs.Prelude.{◌≡◌, ◌∷◌, ◌-◌, ◌^◌, take, IsTrue};
+ghost use Rattle.std.specs.Prelude.{◌≡◌, ◌-◌, ◌^◌, IsTrue};
 ghost use Rattle.sz_lms.specs.View.{facts_of, tree_height};
 ghost use Rattle.sz_lms_tree.specs.Tree.{is_height, is_width, ots_of, ots_code, tree_code, secret_value, randomizer_of, child_of, chain_value};
 ghost use Rattle.sz_lms_tree.specs.View.{tree_secret};

@@ -11,7 +11,7 @@ ghost use Rattle.sz_lms_tree.specs.View.{tree_secret};
 use crate::kept::node_place;
 use crate::secrets::{Secret, chain_value, randomizer};
 use std::alloc::Global;
-use sz_base::{Bytes, OutOfMemory};
+use sz_base::OutOfMemory;
 use sz_lms::{digit, message_digest, signed_bytes};
 
 // Puts each chain of leaf `q` last, as far along as its digit says.
