@@ -2,8 +2,9 @@
 ghost use Rattle.std.specs.Prelude.{None};
 
 use crate::{
-    Clock, Entropy, ExchangeEnd, Files, Folder, Found, Listener, MemoryFolder, MemorySink, Net,
-    Script, ScriptListener, ScriptNet, Scripts, SetClock, SetEntropy, Sink, Times, read_whole,
+    Clock, Entropy, Exchange, ExchangeEnd, Files, Folder, Found, Listener, MemoryFolder,
+    MemorySink, Net, Script, ScriptListener, ScriptNet, Scripts, SetClock, SetEntropy, Sink, Times,
+    read_whole,
 };
 use std::alloc::Global;
 use std::process::Abort;
@@ -181,6 +182,17 @@ fn ask<N: Net>(rt: &impl Abort, alloc: Global, net: &mut N, step: Step) -> Resul
     })
 }
 
+// An exchange: its port, the bytes sent and received, and its end.
+type Row = (u16, &'static [u8], &'static [u8], ExchangeEnd);
+
+fn compare(rt: &impl Abort, exchange: &Exchange, row: Row) {
+    let (port, sent, received, end) = row;
+    assert_eq!(rt; exchange.target.port, port);
+    assert_eq!(rt; exchange.sent.as_slice(), sent);
+    assert_eq!(rt; exchange.received.as_slice(), received);
+    assert_eq!(rt; exchange.end, end);
+}
+
 // The fourth call fails.
 #[test]
 fn a_network_keeps_what_went_over_it(rt: HostRuntime) -> Result<(), Fail> {
@@ -211,7 +223,7 @@ fn a_network_keeps_what_went_over_it(rt: HostRuntime) -> Result<(), Fail> {
     for (step, succeeds) in steps {
         assert_eq!(rt; ask(&rt, alloc, &mut net, step)?, succeeds);
     }
-    let exchanges: [(u16, &[u8], &[u8], ExchangeEnd); 5] = [
+    let exchanges: [Row; 5] = [
         (1, b"GET", b"one", ExchangeEnd::Lost),
         (2, b"", b"two", ExchangeEnd::Lost),
         (3, b"", b"", ExchangeEnd::Closed),
@@ -219,11 +231,8 @@ fn a_network_keeps_what_went_over_it(rt: HostRuntime) -> Result<(), Fail> {
         (5, b"", b"", ExchangeEnd::Lost),
     ];
     assert_eq!(rt; net.past().len(), exchanges.len());
-    for (exchange, (port, sent, received, end)) in net.past().iter().zip(exchanges) {
-        assert_eq!(rt; exchange.target.port, port);
-        assert_eq!(rt; exchange.sent.as_slice(), sent);
-        assert_eq!(rt; exchange.received.as_slice(), received);
-        assert_eq!(rt; exchange.end, end);
+    for (exchange, row) in net.past().iter().zip(exchanges) {
+        compare(&rt, exchange, row);
     }
     Ok(())
 }
