@@ -109,7 +109,8 @@ Adds-join_idle a b c first second idle ab bc =
     let all : exchanges b ≡ b.past = idle-exchanges b idle in
     let long : length bc.kept ≡ length b.past = AreLater-length (exchanges b) bc.kept bc.later ∙ ap length all in
     let tail = push_some bc.past.0 (option_map exchange_of c.standing) in
-    let behind : exchanges c ≡ b.past ++ tail = ap (λ l. push_some l (option_map exchange_of c.standing)) bc.past.1 ∙ push_some-append b.past bc.past.0 (option_map exchange_of c.standing) in
+    let behind : exchanges c ≡ b.past ++ tail = ap (λ l. push_some l (option_map exchange_of c.standing)) bc.past.1
+    ∙ push_some-append b.past bc.past.0 (option_map exchange_of c.standing) in
     let same : bc.kept ≡ b.past = same-front bc.kept second b.past tail long (sym bc.split ∙ behind) in
     record {
       kept = ab.kept;
@@ -140,7 +141,8 @@ IsLater-sent bytes s = record {
   end = λ _. refl;
 }
 
-later-either : (e f g : Standing) (first : Bool) → IsLater (exchange_of e) (exchange_of f) → IsLater (exchange_of e) (exchange_of g) → IsLater (exchange_of e) (exchange_of (if first then f else g))
+later-either : (e f g : Standing) (first : Bool) → IsLater (exchange_of e) (exchange_of f) → IsLater (exchange_of e) (exchange_of g)
+    → IsLater (exchange_of e) (exchange_of (if first then f else g))
 later-either e f g true one other = one
 later-either e f g false one other = other
 
@@ -149,7 +151,8 @@ IsLater-received into count s =
     later-either s (ended Closed s) (record s { connection = with_received count s.connection }) (count == 0 && not (length into == 0)) (IsLater-ended Closed s)
     (record { target = refl; sent = ([], sym (append-nil s.connection.sent)); received = (take count s.connection.rest.bytes, refl); end = λ _. refl })
 
-left-later : (past : List Exchange) (o : Option Standing) → AreLater (push_some past (option_map exchange_of o)) (push_some past (option_map (λ s. exchange_of (ended Left s)) o))
+left-later : (past : List Exchange) (o : Option Standing)
+    → AreLater (push_some past (option_map exchange_of o)) (push_some past (option_map (λ s. exchange_of (ended Left s)) o))
 left-later past None = AreLater-refl past
 left-later past (Some s) = AreLater-push past (exchange_of s) (exchange_of (ended Left s)) (IsLater-ended Left s)
 
@@ -163,7 +166,8 @@ Adds-connect target a b connects =
     let gone = past-stays a.past (option_map (λ s. exchange_of (ended Left s)) a.standing) in
     record {
       kept = left_behind a;
-      split = ap (λ o. push_some b.past (option_map exchange_of o)) connects.standing ∙ ap (λ l. l ++ exchange_of (first_standing target connects.answer) ∷ []) connects.past;
+      split = ap (λ o. push_some b.past (option_map exchange_of o)) connects.standing
+          ∙ ap (λ l. l ++ exchange_of (first_standing target connects.answer) ∷ []) connects.past;
       later = left-later a.past a.standing;
       past = (gone.0, connects.past ∙ gone.1);
     }
@@ -171,12 +175,13 @@ Adds-connect target a b connects =
 -- a connect that fails adds a lost one
 pub Adds-refused_connect : (target : Target) (a : Traffic) → Adds a (after_refused_connect target a) (refused_exchange target ∷ [])
 Adds-refused_connect target a =
+    let lost = refused_exchange target ∷ [] in
     let gone = past-stays a.past (option_map (λ s. exchange_of (ended Left s)) a.standing) in
     record {
       kept = left_behind a;
       split = refl;
       later = left-later a.past a.standing;
-      past = (gone.0 ++ refused_exchange target ∷ [], ap (λ l. l ++ refused_exchange target ∷ []) gone.1 ∙ append_assoc a.past gone.0 (refused_exchange target ∷ []));
+      past = (gone.0 ++ lost, ap (λ l. l ++ lost) gone.1 ∙ append_assoc a.past gone.0 lost);
     }
 
 -- a close adds none
@@ -214,14 +219,17 @@ refused_send-cases : (bytes : List ℕ) (a b : Traffic) (o : Option Standing) �
 refused_send-cases bytes a b None stood fails = rw fails (Adds-refl a)
 refused_send-cases bytes a b (Some s) stood fails =
     let sent = sent_on (take fails.0 bytes) s in
-    rw fails.1 (Adds-standing a s (ended Lost sent) stood (IsLater-trans (exchange_of s) (exchange_of sent) (exchange_of (ended Lost sent)) (IsLater-sent (take fails.0 bytes) s) (IsLater-ended Lost sent)))
+    let went_on = IsLater-sent (take fails.0 bytes) s in
+    let later = IsLater-trans (exchange_of s) (exchange_of sent) (exchange_of (ended Lost sent)) went_on (IsLater-ended Lost sent) in
+    rw fails.1 (Adds-standing a s (ended Lost sent) stood later)
 
 pub Adds-refused_send : (bytes : List ℕ) (a b : Traffic) → FailsToSend bytes a b → Adds a b []
 Adds-refused_send bytes a b fails = refused_send-cases bytes a b a.standing refl fails
 
 pub Adds-receive : (into : List ℕ) (count : ℕ) (a b : Traffic) → Receives into count a b → Adds a b []
 Adds-receive into count a b receives =
-    rw receives.gives (Adds-standing a receives.standing (received_on into count receives.standing) receives.stood (IsLater-received into count receives.standing))
+    let s = receives.standing in
+    rw receives.gives (Adds-standing a s (received_on into count s) receives.stood (IsLater-received into count s))
 
 refused_receive-cases : (a : Traffic) (o : Option Standing) → a.standing ≡ o → Adds a (record a { standing = option_map (ended Lost) o }) []
 refused_receive-cases a None stood = rw (← stood) (Adds-refl a)

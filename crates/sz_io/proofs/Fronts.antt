@@ -4,7 +4,8 @@ use Rattle.std.proofs.Math.Seq.{take-add}
 use Rattle.sz_io.specs.Folder.{FileMap, readable_at}
 
 -- a front of a list with the next part of it is a front
-pub front-more : (file sofar more now : List ℕ) (n : ℕ) → sofar ≡ take (length sofar) file → length more ≡ n → more ≡ take n (drop (length sofar) file) → now ≡ sofar ++ more → now ≡ take (length now) file
+pub front-more : (file sofar more now : List ℕ) (n : ℕ) → sofar ≡ take (length sofar) file → length more ≡ n
+    → more ≡ take n (drop (length sofar) file) → now ≡ sofar ++ more → now ≡ take (length now) file
 front-more file sofar more now n front len next joined =
     let long : length now ≡ length sofar + n = rw (joined, length-append) (omega arith) in
     rw long (rw (take-add (length sofar) n file) (rw (← front, ← next) joined))

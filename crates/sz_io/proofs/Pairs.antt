@@ -28,7 +28,8 @@ tested path other = lists_ties nat_cmp unsigned_ties path other
 pub bytes_at-files_of : (pairs : List Pair) (path : List ℕ) → bytes_at (files_of pairs) path ≡ first_in pairs path
 bytes_at-files_of pairs path = get-from_entries nat_list_cmp_total pairs path
 
-first_in-push : (pairs : List Pair) (path : List ℕ) (pair : Pair) → first_in pairs path ≡ None → ties path pair.0 ≡ false → first_in (pairs ++ pair ∷ []) path ≡ None
+first_in-push : (pairs : List Pair) (path : List ℕ) (pair : Pair) → first_in pairs path ≡ None → ties path pair.0 ≡ false
+    → first_in (pairs ++ pair ∷ []) path ≡ None
 first_in-push [] path pair none other = rw other refl
 first_in-push (first ∷ pairs) path pair none other =
     elim (ties path first.0) as (λ b. cond b (Some first.1) (first_in pairs path) ≡ None → cond b (Some first.1) (first_in (pairs ++ pair ∷ []) path) ≡ None) [
@@ -37,16 +38,19 @@ first_in-push (first ∷ pairs) path pair none other =
     ] none
 
 -- a pair of another path is passed
-pub first_in-take_more : (pairs : List Pair) (path : List ℕ) (i : ℕ) (d : Pair) → i < length pairs → first_in (take i pairs) path ≡ None → ties path (get_or pairs i d).0 ≡ false → first_in (take (i + 1) pairs) path ≡ None
+pub first_in-take_more : (pairs : List Pair) (path : List ℕ) (i : ℕ) (d : Pair) → i < length pairs → first_in (take i pairs) path ≡ None
+    → ties path (get_or pairs i d).0 ≡ false → first_in (take (i + 1) pairs) path ≡ None
 first_in-take_more pairs path i d within none other =
     rw (take_more pairs i d within) (first_in-push (take i pairs) path (get_or pairs i d) none other)
 
 -- the first pair of a path has its bytes
-pub first_in-at : (pairs : List Pair) (path : List ℕ) (i : ℕ) (d : Pair) → i < length pairs → first_in (take i pairs) path ≡ None → (get_or pairs i d).0 ≡ path → first_in pairs path ≡ Some (get_or pairs i d).1
+pub first_in-at : (pairs : List Pair) (path : List ℕ) (i : ℕ) (d : Pair) → i < length pairs → first_in (take i pairs) path ≡ None
+    → (get_or pairs i d).0 ≡ path → first_in pairs path ≡ Some (get_or pairs i d).1
 first_in-at [] path i d within none same = absurd (omega arith)
 first_in-at (first ∷ pairs) path zero d within none same = rw (ties_itself path first.0 same) refl
 first_in-at (first ∷ pairs) path (suc i) d within none same =
-    elim (ties path first.0) as (λ b. cond b (Some first.1) (first_in (take i pairs) path) ≡ None → cond b (Some first.1) (first_in pairs path) ≡ Some (get_or pairs i d).1) [
+    elim (ties path first.0) as (λ b. cond b (Some first.1) (first_in (take i pairs) path) ≡ None
+    → cond b (Some first.1) (first_in pairs path) ≡ Some (get_or pairs i d).1) [
       | true ↦ λ found. cc
       | false ↦ λ unfound. first_in-at pairs path i d (omega arith) unfound same
     ] none
@@ -66,13 +70,16 @@ same_path : (path other : List ℕ) → ties path other ≡ true → path ≡ ot
 same_path path other tied = same_text path other (sym (tested path other ∙ tied))
 
 -- other bytes for the first pair of a path
-first_in-set : (pairs : List Pair) (path bytes : List ℕ) (i : ℕ) (d : Pair) → i < length pairs → first_in (take i pairs) path ≡ None → (get_or pairs i d).0 ≡ path → (q : List ℕ) → first_in (set pairs i ((get_or pairs i d).0, bytes)) q ≡ cond (ties q path) (Some bytes) (first_in pairs q)
+first_in-set : (pairs : List Pair) (path bytes : List ℕ) (i : ℕ) (d : Pair) → i < length pairs → first_in (take i pairs) path ≡ None
+    → (get_or pairs i d).0 ≡ path → (q : List ℕ)
+    → first_in (set pairs i ((get_or pairs i d).0, bytes)) q ≡ cond (ties q path) (Some bytes) (first_in pairs q)
 first_in-set [] path bytes i d within none same q = absurd (omega arith)
 first_in-set (first ∷ pairs) path bytes zero d within none same q =
     rw same (shadowed (ties q path) (Some bytes) (Some first.1) (first_in pairs q))
 first_in-set (first ∷ pairs) path bytes (suc i) d within none same q =
     elim (ties path first.0) as (λ b. ties path first.0 ≡ b → cond b (Some first.1) (first_in (take i pairs) path) ≡ None →
-    cond (ties q first.0) (Some first.1) (first_in (set pairs i ((get_or pairs i d).0, bytes)) q) ≡ cond (ties q path) (Some bytes) (cond (ties q first.0) (Some first.1) (first_in pairs q))) [
+    cond (ties q first.0) (Some first.1) (first_in (set pairs i ((get_or pairs i d).0, bytes)) q)
+    ≡ cond (ties q path) (Some bytes) (cond (ties q first.0) (Some first.1) (first_in pairs q))) [
       | true ↦ λ is found. cc
       | false ↦ λ is unfound.
           ap (cond (ties q first.0) (Some first.1)) (first_in-set pairs path bytes i d (omega arith) unfound same q)
@@ -82,11 +89,13 @@ first_in-set (first ∷ pairs) path bytes (suc i) d within none same q =
           cc)
     ] refl none
 
-pub files_of-set : (pairs : List Pair) (path bytes : List ℕ) (i : ℕ) (d : Pair) → i < length pairs → first_in (take i pairs) path ≡ None → (get_or pairs i d).0 ≡ path → files_of (set pairs i ((get_or pairs i d).0, bytes)) ≡ with_file path bytes (files_of pairs)
+pub files_of-set : (pairs : List Pair) (path bytes : List ℕ) (i : ℕ) (d : Pair) → i < length pairs → first_in (take i pairs) path ≡ None
+    → (get_or pairs i d).0 ≡ path → files_of (set pairs i ((get_or pairs i d).0, bytes)) ≡ with_file path bytes (files_of pairs)
 files_of-set pairs path bytes i d within none same =
     same_map nat_list_cmp_total exact _ _ (λ q.
     bytes_at-files_of _ q ∙ first_in-set pairs path bytes i d within none same q
     ∙ sym (get-insert nat_list_cmp_total (files_of pairs) path bytes q ∙ ap (cond (ties q path) (Some bytes)) (bytes_at-files_of pairs q)))
 
-pub files_of-push : (pairs : List Pair) (path bytes : List ℕ) → first_in pairs path ≡ None → files_of (pairs ++ (path, bytes) ∷ []) ≡ with_file path bytes (files_of pairs)
+pub files_of-push : (pairs : List Pair) (path bytes : List ℕ) → first_in pairs path ≡ None
+    → files_of (pairs ++ (path, bytes) ∷ []) ≡ with_file path bytes (files_of pairs)
 files_of-push pairs path bytes none = from_entries_push nat_list_cmp_total exact pairs path bytes none

@@ -41,7 +41,11 @@ pub record EntropyState : Type 0 where
 
 -- the parts of a plan, as a proof tells plans apart
 abbrev pub plan_code : Coded Plan
-plan_code = code_by (List ℕ × (ℕ × ℕ)) (coded× (coded_list coded_ℕ) (coded× coded_ℕ coded_ℕ)) (λ p. (p.fail, (p.calls, p.faults))) (λ t. record { fail = t.0; calls = t.1.0; faults = t.1.1 }) (λ _. refl)
+plan_code =
+    code_by (List ℕ × (ℕ × ℕ)) (coded× (coded_list coded_ℕ) (coded× coded_ℕ coded_ℕ))
+    (λ p. (p.fail, (p.calls, p.faults))) (λ t. record { fail = t.0; calls = t.1.0; faults = t.1.1 }) (λ _. refl)
 
 abbrev pub folder_code : Coded FolderState
-folder_code = code_by (FileMap × Plan) (coded× (map.code (coded_list coded_ℕ) (coded_list coded_ℕ)) plan_code) (λ f. (f.files, f.plan)) (λ t. record { files = t.0; plan = t.1 }) (λ _. refl)
+folder_code =
+    code_by (FileMap × Plan) (coded× (map.code (coded_list coded_ℕ) (coded_list coded_ℕ)) plan_code)
+    (λ f. (f.files, f.plan)) (λ t. record { files = t.0; plan = t.1 }) (λ _. refl)

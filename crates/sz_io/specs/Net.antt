@@ -48,7 +48,8 @@ ended end standing = record standing { end = first_end standing.end end }
 
 -- the exchanges so far, where the connection that stood was left
 abbrev pub left_behind : Traffic → List Exchange
-left_behind traffic = push_some traffic.past (option_map (λ standing. exchange_of (ended Left standing)) traffic.standing)
+left_behind traffic =
+    push_some traffic.past (option_map (λ standing. exchange_of (ended Left standing)) traffic.standing)
 
 -- no connection stands any more; the one that did was left
 abbrev pub after_close : Traffic → Traffic

@@ -1,5 +1,5 @@
 //! The listener, by which a program answers those who connect to it.
-ghost use Rattle.std.specs.Prelude.{◌≡◌, ℕ, ◌≤◌, length, Bool, true, false, IsTrue, Option, OnOk, OnErr, IfOk, is_ok, is_err};
+ghost use Rattle.std.specs.Prelude.{◌≡◌, ℕ, ◌≤◌, length, Bool, false, IsTrue, Option, OnOk, OnErr, IfOk, is_ok, is_err};
 ghost use Rattle.sz_base.specs.Fault.{put_failed};
 ghost use Rattle.sz_spec.specs.Cause.{HasCause};
 ghost use Rattle.sz_spec.specs.Told.{WhereTold};

@@ -1,5 +1,5 @@
 //! A folder in memory.
-ghost use Rattle.std.specs.Prelude.{◌≡◌, ◌↔◌, ◌-◌, ◌<◌, ◌≤◌, min, length, take, drop, Some, None, OnOk, OnErr, IfOk, IfSome, IfNone, IsErr, IsErrOf, is_err};
+ghost use Rattle.std.specs.Prelude.{◌≡◌, ◌↔◌, ◌-◌, ◌<◌, min, length, take, drop, Some, None, OnOk, OnErr, IfOk, IfSome, IfNone, IsErr, IsErrOf, is_err};
 ghost use Rattle.std.specs.List.{HoldsAt};
 ghost use Rattle.std.specs.Option.{option_copied, option_map};
 ghost use Rattle.sz_base.specs.Fault.{put_failed};
@@ -73,8 +73,10 @@ impl Folder for MemoryFolder {
 
     /// Reads as many bytes as there are and `into` takes.
     fn read_at(&mut self, path: &Text, at: u64, into: &mut [u8]) -> Result<usize, Failed>
-        ensures count { IfOk result (λ count. count ≡ min (length into.old) (length (readable_at self.old.files path.now) - at)) }
-        ensures bytes { IfOk result (λ count. take count into.new ≡ take count (drop at (readable_at self.old.files path.now))) }
+        ensures count { IfOk result (λ count.
+            count ≡ min (length into.old) (length (readable_at self.old.files path.now) - at)) }
+        ensures bytes { IfOk result (λ count.
+            take count into.new ≡ take count (drop at (readable_at self.old.files path.now))) }
         ensures unchanged { self.new.files ≡ self.old.files }
         ensures cause { HasCause self.old.plan.faults self.new.plan.faults (is_err result) }
         ensures fails { IsErr result ↔ FailsNext self.old.plan }

@@ -6,7 +6,7 @@ use sz_base::Items;
 
 /// A list off whose front elements are taken. Contracts see it as the elements that are left.
 #[derive(Debug, Drop)]
-pub struct Rest<T> {
+pub(crate) struct Rest<T> {
     items: Vec<T>,
     taken: usize,
 }
@@ -23,7 +23,7 @@ impl<T> Model for Rest<T> {
 
 impl<T> Rest<T> {
     /// All of the list is left. Takes no memory.
-    pub fn of(items: Items<T>) -> Self
+    pub(crate) fn of(items: Items<T>) -> Self
         ensures { result ≡ items }
     {
         Rest {
@@ -33,14 +33,14 @@ impl<T> Rest<T> {
     }
 
     /// What is left.
-    pub fn as_slice(&self) -> &[T]
+    pub(crate) fn as_slice(&self) -> &[T]
         ensures { result.now ≡ self.now }
     {
         &self.items.as_slice()[self.taken..]
     }
 
     /// Takes so many elements off the front.
-    pub fn skip(&mut self, count: usize)
+    pub(crate) fn skip(&mut self, count: usize)
         requires { count ≤ length self.old }
         ensures { self.new ≡ drop count self.old }
     {
@@ -49,7 +49,7 @@ impl<T> Rest<T> {
 }
 
 /// Nothing is left behind so many elements.
-pub fn is_over<T>(items: &[T], taken: usize) -> bool
+pub(crate) fn is_over<T>(items: &[T], taken: usize) -> bool
     requires { taken ≤ length items.now }
     ensures { IsTrue result ↔ (drop taken items.now ≡ []) }
 {
@@ -57,7 +57,7 @@ pub fn is_over<T>(items: &[T], taken: usize) -> bool
 }
 
 /// Copies the bytes from this place on into the front of `into`, as many as there are and it takes.
-pub fn copy_from(bytes: &[u8], at: u64, into: &mut [u8]) -> usize
+pub(crate) fn copy_from(bytes: &[u8], at: u64, into: &mut [u8]) -> usize
     ensures count { result ≡ min (length into.old) (length bytes.now - at) }
     ensures copied { take result into.new ≡ take result (drop at bytes.now) }
 {

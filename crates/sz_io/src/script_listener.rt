@@ -1,5 +1,5 @@
 //! A listener in memory.
-ghost use Rattle.std.specs.Prelude.{◌≡◌, ◌↔◌, ◌⊎◌, ◌≤◌, [], length, true, false, IsTrue, Some, None, OnOk, OnErr, IfOk, IsErr, IsErrOf, is_ok, is_err, slice_get, ◌+◌, ◌-◌, min, ◌<◌, ◌++◌, take, drop, map, IsSome};
+ghost use Rattle.std.specs.Prelude.{◌≡◌, ◌↔◌, ◌⊎◌, ◌≤◌, [], length, true, false, IsTrue, Some, None, OnOk, OnErr, IfOk, IsErr, IsErrOf, is_ok, is_err, slice_get, ◌+◌, ◌-◌, min, ◌<◌, take, drop, map, IsSome};
 ghost use Rattle.std.specs.Option.{option_copied, option_map};
 ghost use Rattle.sz_base.specs.Fault.{put_failed};
 ghost use Rattle.sz_spec.specs.Cause.{HasCause};
@@ -135,7 +135,8 @@ impl Listener for ScriptListener {
     /// Receives as many bytes as are still to come and `into` takes.
     fn receive(&mut self, into: &mut [u8]) -> Result<usize, Failed>
         requires { IsTrue self.old.stands }
-        ensures count { IfOk result (λ count. count ≡ min (length into.old) (length (bytes_to_come self.old.arrivals))) }
+        ensures count { IfOk result (λ count.
+            count ≡ min (length into.old) (length (bytes_to_come self.old.arrivals))) }
         ensures ok { IfOk result (λ count. ReceivesOnLast into.new count self.old.arrivals self.new.arrivals) }
         ensures refused { OnErr result (self.new.arrivals ≡ self.old.arrivals) }
         ensures stands { IsTrue self.new.stands }

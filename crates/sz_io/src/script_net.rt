@@ -1,5 +1,5 @@
 //! A network in memory.
-ghost use Rattle.std.specs.Prelude.{◌≡◌, ◌↔◌, ◌⊎◌, ◌+◌, ◌<◌, ◌≤◌, [], ◌∷◌, ◌++◌, min, length, Some, None, OnOk, OnErr, IfOk, IsErr, IsErrOf, IsSome, is_err, vec_len};
+ghost use Rattle.std.specs.Prelude.{◌≡◌, ◌↔◌, ◌⊎◌, ◌+◌, ◌<◌, ◌≤◌, [], min, length, Some, None, OnOk, OnErr, IfOk, IsErr, IsErrOf, IsSome, is_err, vec_len};
 ghost use Rattle.std.specs.Option.{option_map};
 ghost use Rattle.std.specs.Vec.{vec_capacity};
 ghost use Rattle.sz_base.specs.Fault.{put_failed};
@@ -135,7 +135,8 @@ impl Net for ScriptNet {
 
     /// Receives as many bytes as are still to come and `into` takes.
     fn receive(&mut self, into: &mut [u8]) -> Result<usize, Failed>
-        ensures count { IfOk result (λ count. count ≡ min (length into.old) (length (bytes_to_come self.old.traffic))) }
+        ensures count { IfOk result (λ count.
+            count ≡ min (length into.old) (length (bytes_to_come self.old.traffic))) }
         ensures ok { IfOk result (λ count. Receives into.new count self.old.traffic self.new.traffic) }
         ensures failed { OnErr result (self.new.traffic ≡ after_refused_receive self.old.traffic) }
         ensures cause { HasCause self.old.plan.faults self.new.plan.faults (is_err result) }

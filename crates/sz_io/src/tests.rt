@@ -2,8 +2,9 @@
 ghost use Rattle.std.specs.Prelude.{None};
 
 use crate::{
-    Clock, Entropy, ExchangeEnd, Files, Folder, Found, Listener, MemoryFolder, MemorySink, Net,
-    Script, ScriptListener, ScriptNet, Scripts, SetClock, SetEntropy, Sink, Times, read_whole,
+    Clock, Entropy, Exchange, ExchangeEnd, Files, Folder, Found, Listener, MemoryFolder,
+    MemorySink, Net, Script, ScriptListener, ScriptNet, Scripts, SetClock, SetEntropy, Sink, Times,
+    read_whole,
 };
 use std::alloc::Global;
 use std::process::Abort;
@@ -181,6 +182,17 @@ fn ask<N: Net>(rt: &impl Abort, alloc: Global, net: &mut N, step: Step) -> Resul
     })
 }
 
+// An exchange: its port, the bytes sent and received, and its end.
+type Row = (u16, &'static [u8], &'static [u8], ExchangeEnd);
+
+fn compare(rt: &impl Abort, exchange: &Exchange, row: Row) {
+    let (port, sent, received, end) = row;
+    assert_eq!(rt; exchange.target.port, port);
+    assert_eq!(rt; exchange.sent.as_slice(), sent);
+    assert_eq!(rt; exchange.received.as_slice(), received);
+    assert_eq!(rt; exchange.end, end);
+}
+
 // The fourth call fails.
 #[test]
 fn a_network_keeps_what_went_over_it(rt: HostRuntime) -> Result<(), Fail> {
@@ -211,7 +223,7 @@ fn a_network_keeps_what_went_over_it(rt: HostRuntime) -> Result<(), Fail> {
     for (step, succeeds) in steps {
         assert_eq!(rt; ask(&rt, alloc, &mut net, step)?, succeeds);
     }
-    let exchanges: [(u16, &[u8], &[u8], ExchangeEnd); 5] = [
+    let exchanges: [Row; 5] = [
         (1, b"GET", b"one", ExchangeEnd::Lost),
         (2, b"", b"two", ExchangeEnd::Lost),
         (3, b"", b"", ExchangeEnd::Closed),
@@ -219,39 +231,42 @@ fn a_network_keeps_what_went_over_it(rt: HostRuntime) -> Result<(), Fail> {
         (5, b"", b"", ExchangeEnd::Lost),
     ];
     assert_eq!(rt; net.past().len(), exchanges.len());
-    for (exchange, (port, sent, received, end)) in net.past().iter().zip(exchanges) {
-        assert_eq!(rt; exchange.target.port, port);
-        assert_eq!(rt; exchange.sent.as_slice(), sent);
-        assert_eq!(rt; exchange.received.as_slice(), received);
-        assert_eq!(rt; exchange.end, end);
+    for (exchange, row) in net.past().iter().zip(exchanges) {
+        compare(&rt, exchange, row);
     }
     Ok(())
 }
 
-// The fifth call, a send on the second connection, fails.
+// What came of a connection: whether a send succeeded, and what two receives answered.
+type Answers = (bool, Option<usize>, Option<usize>);
+
+// Accepts a connection, sends these bytes on it and receives twice.
+fn serve<L: Listener>(listener: &mut L, bytes: &[u8]) -> Option<Answers> {
+    let mut into = [0u8; 8];
+    listener.accept().ok()?;
+    let sent = listener.send(bytes).is_ok();
+    let first = listener.receive(&mut into).ok();
+    let second = listener.receive(&mut into).ok();
+    Some((sent, first, second))
+}
+
+// The seventh call, the send on the second connection, fails.
 #[test]
 fn a_listener_keeps_what_was_sent_on_each_connection(rt: HostRuntime) -> Result<(), Fail> {
     let alloc = rt.alloc();
     let scripts = scripts(alloc, &[(b"one", true), (b"two", false)])?;
-    let mut listener = ScriptListener::create(alloc, scripts, calls(alloc, &[5])?);
+    let mut listener = ScriptListener::create(alloc, scripts, calls(alloc, &[7])?);
     listener.listen(&at_port(alloc, 1)?)?;
-    listener.accept()?;
-    listener.send(b"first")?;
-    listener.accept()?;
-    assert_eq!(rt; listener.send(b"second"), Err(PutFault::Failed));
-    listener.send(b"third")?;
-    let mut into = [0u8; 4];
-    assert_eq!(rt; listener.receive(&mut into), Ok(3));
-    assert_eq!(rt; into, *b"two\0");
-    assert_eq!(rt; listener.receive(&mut into), Err(Failed));
-    assert_eq!(rt; listener.accept(), Err(Failed));
-    listener.close();
-    for (place, sent) in [Some(b"first".as_slice()), Some(b"third"), None]
-        .into_iter()
-        .enumerate()
-    {
+    let rows: [(&[u8], Option<Answers>, Option<&[u8]>); 3] = [
+        (b"first", Some((true, Some(3), Some(0))), Some(b"first")),
+        (b"second", Some((false, Some(3), None)), Some(b"")),
+        (b"third", None, None),
+    ];
+    for (place, (bytes, answers, sent)) in rows.into_iter().enumerate() {
+        assert_eq!(rt; serve(&mut listener, bytes), answers);
         assert_eq!(rt; listener.sent(place), sent);
     }
+    listener.close();
     Ok(())
 }
 

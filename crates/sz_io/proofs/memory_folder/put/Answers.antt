@@ -9,7 +9,8 @@ returns-in-Some-clause-ok c =
     let content : c.from_vec-content.result ≡ c.args.bytes.now = search rules in
     let within : c.in-Some.place < length c.args.pairs.now.items = search rules in
     let before : first_in (take c.in-Some.place c.args.pairs.now.items) c.args.path.now ≡ None = search rules in
-    let first : (get_or c.args.pairs.now.items c.in-Some.place c.index_mut.result.now).0 ≡ c.args.path.now = search (rules, place.first c.index_mut.result.now) in
+    let first : (get_or c.args.pairs.now.items c.in-Some.place c.index_mut.result.now).0 ≡ c.args.path.now =
+    search (rules, place.first c.index_mut.result.now) in
     rw (content, c.index_mut.ensures.value)
     (files_of-set c.args.pairs.now.items c.args.path.now c.args.bytes.now c.in-Some.place c.index_mut.result.now within before first)
 

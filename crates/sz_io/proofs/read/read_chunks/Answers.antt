@@ -10,7 +10,8 @@ loop-bytes-preserved g c =
     let long : length more ≡ count = grind (arith, common_steps) in
     let joined : c.append.new.self ≡ c.loop-bytes.bytes ++ more = grind (arith, common_steps) in
     record {
-      front = told-more (g.F.Folder.files c.loop-bytes.folder) (g.F.Folder.files c.read_at.new.self) c.args.path.now c.loop-bytes.bytes more c.append.new.self count
+      front =
+          told-more (g.F.Folder.files c.loop-bytes.folder) (g.F.Folder.files c.read_at.new.self) c.args.path.now c.loop-bytes.bytes more c.append.new.self count
           (search rules) c.loop-bytes.invariant.front (search rules) long joined;
       within = grind (arith, common_steps);
       files = search rules;

@@ -1,6 +1,5 @@
-use Rattle.std.proofs.Common.{rules, arith, sym}
+use Rattle.std.proofs.Common.{rules}
 use Rattle.std.proofs.Math.Seq.{take-add, drop-drop}
-use Rattle.std.proofs.lemmas.Grind.{common_steps}
 use Rattle.sz_io.proofs.script_connection.ScriptConnection.receive.Goals as goal
 
 pub returns-clause-received : goal.returns-clause-received
