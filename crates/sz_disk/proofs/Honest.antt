@@ -1,6 +1,5 @@
 -- A disk in memory follows the disk rule, whatever became of the call.
 use Rattle.std.proofs.Common.{◌≡◌, ◌⊎◌, ℕ, ◌+◌, ◌≤◌, Bool, true, false, List, length, Result, Ok, Err, is_err, OnOk, sym, subst, inl, inr, ⊎_elim}
-use Rattle.sz_disk.specs.Image.{patched}
 use Rattle.sz_disk.specs.Disk.{Seen, IsStill, IsQuiet, IsSynced, WroteIn}
 use Rattle.sz_disk.specs.Event.{seen_after}
 use Rattle.sz_disk.specs.Memory.{Memory, seen_of, IsWritten, RecordsSync, ReadsBy, WritesBy, SyncsBy}

@@ -1,5 +1,5 @@
 -- The disk rule over several calls: how the words on calls compose, and what follows for a crash at any moment.
-use Rattle.std.proofs.Common.{◌≡◌, ◌⊎◌, ◌↔◌, ℕ, ◌+◌, ◌≤◌, List, [], ◌∷◌, ◌++◌, length, Option, Some, None, is_some, refl, sym, subst, ◌∙◌, inl, inr, ⊎_elim, arith}
+use Rattle.std.proofs.Common.{◌≡◌, ◌↔◌, ℕ, ◌+◌, ◌≤◌, List, [], ◌∷◌, ◌++◌, length, Option, Some, None, is_some, refl, sym, subst, ◌∙◌, inl, inr, ⊎_elim, arith}
 use Rattle.std.proofs.lemmas.Option.{same_Some}
 use Rattle.sz_disk.specs.Image.{ChangedIn, ChangedInEach, LeftBy, TornFrom, IsSpared, IsSparedByAll}
 use Rattle.sz_disk.specs.Disk.{Seen, IsLawful, ReadsChangedIn, IsSettled, IsStill, IsQuiet, Tears, TornIn, WroteIn, LeavesOnly}

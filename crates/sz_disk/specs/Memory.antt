@@ -1,10 +1,12 @@
 -- What contracts see of a disk in memory, and what its calls do.
 use Rattle.std.specs.Prelude.{◌≡◌, ◌⊎◌, ℕ, ◌+◌, min, Bool, true, false, if◌then◌else◌, List, [], ◌∷◌, ◌++◌, length, replicate, None, MatchBool}
+use Rattle.std.proofs.Common.{get_or}
 use Rattle.sz_spec.specs.Cause.{last_count}
 use Rattle.sz_disk.specs.Image.{part, patched}
 use Rattle.sz_disk.specs.Disk.{Seen}
-use Rattle.sz_disk.specs.Event.{seen_after}
-use Rattle.sz_disk.specs.Plan.{counted, HasFate}
+use Rattle.sz_disk.specs.Event.{unsynced, undone, seen_after}
+use Rattle.sz_disk.specs.Choice.{IsPicked}
+use Rattle.sz_disk.specs.Plan.{counted, HasFate, choice_of}
 use Rattle.sz_disk.specs.declared.event.Event.{Event}
 use Rattle.sz_disk.specs.declared.event.Event.TheVariants.{Wrote, Synced}
 use Rattle.sz_disk.specs.declared.plan.Plan.{Plan}
@@ -47,6 +49,13 @@ blank size = record { bytes = replicate size 0; events = []; plan = no_plan; fau
 -- the same but for its plan
 abbrev pub with_plan : Memory → Plan → Memory
 with_plan disk plan = record disk { plan = plan }
+
+-- the image that the cut's choice picks of it, or choice 0 where no cut is named: of each unsynced byte it takes
+-- the one of the last sync, the one that a read gives, or a third
+abbrev pub IsPickedOf : Memory → List ℕ → Type 0
+IsPickedOf disk image =
+    let pending = unsynced disk.events in
+    IsPicked (choice_of disk.plan) pending (λ k. get_or (undone pending disk.bytes) k 0) disk.bytes image
 
 -- the disk once it is powered up with an image: its faults are counted on, and want of memory is told on
 abbrev pub powered_up : Memory → List ℕ → Memory

@@ -1,15 +1,13 @@
 //! A disk in memory.
 ghost use Rattle.std.specs.Prelude.{◌≡◌, ◌+◌, ◌≤◌, length, IfOk, OnOk, is_err, not};
 ghost use Rattle.std.specs.Option.{option_map};
-ghost use Rattle.std.proofs.Common.{get_or};
 ghost use Rattle.sz_spec.specs.Cause.{HasCause};
 ghost use Rattle.sz_disk.specs.Image.{patched};
 ghost use Rattle.sz_disk.specs.Disk.{ReadsPart, IsQuiet, IsSynced, IsStill, WroteIn};
-ghost use Rattle.sz_disk.specs.Event.{Leaves, unsynced, undone};
+ghost use Rattle.sz_disk.specs.Event.{Leaves};
 ghost use Rattle.sz_disk.specs.Laws.{lawful_after};
-ghost use Rattle.sz_disk.specs.Plan.{choice_of, with_failing, NamesCut};
-ghost use Rattle.sz_disk.specs.Choice.{IsPicked};
-ghost use Rattle.sz_disk.specs.Memory.{view, seen_of, blank, powered_up, with_plan, counted_faults, IsCounted, Reads, Writes, Syncs, IsKept, IsMarked, IsUntouched};
+ghost use Rattle.sz_disk.specs.Plan.{with_failing, NamesCut};
+ghost use Rattle.sz_disk.specs.Memory.{view, seen_of, blank, IsPickedOf, powered_up, with_plan, counted_faults, IsCounted, Reads, Writes, Syncs, IsKept, IsMarked, IsUntouched};
 
 use crate::disk::Disk;
 use crate::medium::Medium;
@@ -75,9 +73,7 @@ impl MemoryDisk {
     /// The disk with the image that the cut's choice picks, or choice 0 where no cut is named. Everything is
     /// synced, the record is empty, and no call is counted or named.
     pub fn power_up(self) -> Self
-        ensures picked { let pending = unsynced (view self).events in
-            IsPicked (choice_of (view self).plan) pending
-            (λ k. get_or (undone pending (view self).bytes) k 0) (view self).bytes (view result).bytes }
+        ensures picked { IsPickedOf (view self) (view result).bytes }
         ensures left { Leaves (view self).bytes (view self).events (view result).bytes }
         ensures fresh { view result ≡ powered_up (view self) (view result).bytes }
     {

@@ -28,4 +28,6 @@ loop-event-preserved c =
     ]
 
 pub returns : goal.returns
-returns c = found-all c.args.pending.now c.loop-event.event-index c.args.from c.args.end c.loop-event.first c.loop-event.found c.loop-event-test.false c.loop-event.invariant.so_far
+returns c =
+    found-all c.args.pending.now c.loop-event.event-index c.args.from c.args.end c.loop-event.first c.loop-event.found
+    c.loop-event-test.false c.loop-event.invariant.so_far

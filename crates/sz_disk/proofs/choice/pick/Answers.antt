@@ -1,5 +1,5 @@
 use Rattle.std.proofs.Common.{List, ℕ, sym, subst}
-use Rattle.sz_disk.specs.Event.{written_over, undone}
+use Rattle.sz_disk.specs.Event.{written_over}
 use Rattle.sz_disk.specs.Choice.{IsPicked}
 use Rattle.sz_disk.proofs.Undone.{picked-undone}
 use Rattle.sz_disk.proofs.choice.pick.Goals as goal

@@ -13,4 +13,5 @@ loop-place-preserved c =
 
 pub returns : goal.returns
 returns c =
-    picked-all c.args.choice c.args.pending.now c.loop-place.from c.loop-place.rank c.args.bytes.now c.loop-place.bytes c.loop-place.invariant c.in_default.ensures
+    picked-all c.args.choice c.args.pending.now c.loop-place.from c.loop-place.rank c.args.bytes.now c.loop-place.bytes
+    c.loop-place.invariant c.in_default.ensures

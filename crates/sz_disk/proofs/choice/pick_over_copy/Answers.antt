@@ -17,9 +17,14 @@ loop-place-preserved c =
     let marked : place < length marks = omega (arith, c.loop-place-test.true, c.in_ok-covered.ensures.long) in
     let covered : is_covered pending place ≡ c.index.result.now =
     sym (c.in_ok-covered.ensures.each place c.loop-place-test.true) ∙ get_or_default marks place false c.index.result.now marked ∙ sym c.index.ensures in
+    let so = c.loop-place.invariant in
+    let start = c.args.bytes.now in
+    let bytes = c.loop-place.bytes in
+    let old = c.in_ok-old in
     elim c.if-index.branch [
       | then-index w ↦ rw (w.bytes-is, w.rank-is)
-          (picked-here c.args.choice pending place c.loop-place.rank c.args.bytes.now c.loop-place.bytes c.in_ok-old.old.items w.index-then-index.result.now w.picked_byte.result c.requires c.loop-place.invariant c.loop-place-test.true (covered ∙ w.if-index.true) c.in_ok-old.ensures.bytes w.index-then-index.ensures w.picked_byte.ensures)
+          (picked-here c.args.choice pending place c.loop-place.rank start bytes old.old.items w.index-then-index.result.now w.picked_byte.result
+          c.requires so c.loop-place-test.true (covered ∙ w.if-index.true) old.ensures.bytes w.index-then-index.ensures w.picked_byte.ensures)
       | else-index w ↦ rw (w.bytes-is, w.rank-is)
-          (picked-skip c.args.choice pending place c.loop-place.rank c.args.bytes.now c.loop-place.bytes c.loop-place.invariant lt (covered ∙ w.if-index.false))
+          (picked-skip c.args.choice pending place c.loop-place.rank start bytes so lt (covered ∙ w.if-index.false))
     ]
