@@ -1,8 +1,11 @@
-mod Crash
 mod Elements
 mod Fresh
 mod Judged
 mod ReadBack
-mod Runs
-mod Slots
-mod Values
+pub mod Elsewhere
+pub mod Regions
+pub mod Slots
+pub mod States
+pub mod Torn
+pub mod Values
+pub mod Writes

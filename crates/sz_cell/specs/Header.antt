@@ -11,15 +11,18 @@ abbrev pub slot_with : Header → List ℕ → Slot
 slot_with header payload = record {
   gate = header.gate;
   sequence = header.sequence;
-  size = header.length;
+  size = header.size;
   payload = payload;
 }
 
 -- what the region means, whatever payloads stand behind the headers of its two slots
 abbrev pub Judges : ℕ → Header → Header → Result Header AttachFault → Type 0
 Judges capacity first second (Ok found) =
-    (p q : List ℕ) → ((found ≡ first) × (first.length ≤ capacity) × (meaning_of capacity (slot_with first p) (slot_with second q) ≡ value 0 first.sequence p))
-    ⊎ ((found ≡ second) × (second.length ≤ capacity) × (meaning_of capacity (slot_with first p) (slot_with second q) ≡ value 1 second.sequence q))
+    (p q : List ℕ)
+    → ((found ≡ first) × (first.size ≤ capacity)
+    × (meaning_of capacity (slot_with first p) (slot_with second q) ≡ value 0 first.sequence p))
+    ⊎ ((found ≡ second) × (second.size ≤ capacity)
+    × (meaning_of capacity (slot_with first p) (slot_with second q) ≡ value 1 second.sequence q))
 Judges capacity first second (Err Failed) = ⊥
 Judges capacity first second (Err NotFormatted) =
     (p q : List ℕ) → meaning_of capacity (slot_with first p) (slot_with second q) ≡ none
@@ -31,3 +34,8 @@ abbrev pub HeaderRead : ℕ → ℕ → ℕ → Option (List ℕ) → Header →
 HeaderRead at capacity slot None header = Unit {0}
 HeaderRead at capacity slot (Some bytes) header =
     slot_in at capacity slot bytes ≡ slot_with header (slot_in at capacity slot bytes).payload
+
+-- where the disk tells, the two slots have these headers as they are read
+abbrev pub HeadersRead : ℕ → ℕ → Option (List ℕ) → Header → Header → Type 0
+HeadersRead at capacity reads first second =
+    HeaderRead at capacity 0 reads first × HeaderRead at capacity 1 reads second

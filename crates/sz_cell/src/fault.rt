@@ -1,3 +1,4 @@
+//! Why a call of a cell is refused.
 ghost use Rattle.std.specs.Prelude.{◌≡◌};
 ghost use Rattle.sz_cell.specs.declared.fault.FormatFault.TheVariants.{Failed as format_fault};
 ghost use Rattle.sz_cell.specs.declared.fault.AttachFault.TheVariants.{Failed as attach_fault};
@@ -17,6 +18,11 @@ pub enum FormatFault {
 }
 
 impl fmt::Display for FormatFault {
+    ghost use Rattle.std.specs.Prelude.{Some};
+    ghost use Rattle.sz_cell.specs.Fault.{format_text};
+
+    ghost output = { λ fault. Some (format_text fault) };
+
     fn fmt<W: fmt::Write>(&self, f: &mut fmt::Formatter<W>) -> fmt::Result {
         match self {
             FormatFault::Failed => f.write_str("the disk failed"),
@@ -52,6 +58,11 @@ pub enum AttachFault {
 }
 
 impl fmt::Display for AttachFault {
+    ghost use Rattle.std.specs.Prelude.{Some};
+    ghost use Rattle.sz_cell.specs.Fault.{attach_text};
+
+    ghost output = { λ fault. Some (attach_text fault) };
+
     fn fmt<W: fmt::Write>(&self, f: &mut fmt::Formatter<W>) -> fmt::Result {
         match self {
             AttachFault::Failed => f.write_str("the disk failed"),
@@ -60,10 +71,10 @@ impl fmt::Display for AttachFault {
                 slot,
                 sequence,
                 length,
-            } => write!(
-                f,
-                "slot {slot} is damaged: sequence {sequence}, length {length}"
-            ),
+            } => {
+                write!(f, "slot {slot} is damaged: ")?;
+                write!(f, "sequence {sequence}, length {length}")
+            }
         }
     }
 }
@@ -88,6 +99,11 @@ pub enum ClearFault {
 }
 
 impl fmt::Display for ClearFault {
+    ghost use Rattle.std.specs.Prelude.{Some};
+    ghost use Rattle.sz_cell.specs.Fault.{clear_text};
+
+    ghost output = { λ fault. Some (clear_text fault) };
+
     fn fmt<W: fmt::Write>(&self, f: &mut fmt::Formatter<W>) -> fmt::Result {
         match self {
             ClearFault::Failed => f.write_str("the disk failed"),

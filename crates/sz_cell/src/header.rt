@@ -1,3 +1,4 @@
+//! What stands before a slot's payload, and which slot has the cell's value by it.
 ghost use Rattle.std.specs.Prelude.{◌≡◌, ℕ, ◌+◌, ◌<◌, ◌≤◌, ◌++◌, List, [], ◌∷◌, ◌==◌, nat_le, if◌then◌else◌, Ok, Err};
 ghost use Rattle.std.specs.Int.{w32, w64, to_be_bytes};
 ghost use Rattle.sz_cell.specs.Header.{Judges};
@@ -20,7 +21,7 @@ pub(crate) struct Header {
     pub(crate) slot: u8,
     pub(crate) gate: u8,
     pub(crate) sequence: u64,
-    pub(crate) length: u32,
+    pub(crate) size: u32,
 }
 
 impl Header {
@@ -29,24 +30,24 @@ impl Header {
         ensures slot { result.slot ≡ slot }
         ensures gate { result.gate ≡ (slot_of bytes.now).gate }
         ensures sequence { result.sequence ≡ (slot_of bytes.now).sequence }
-        ensures length { result.length ≡ (slot_of bytes.now).size }
+        ensures size { result.size ≡ (slot_of bytes.now).size }
     {
         let [gate, a, b, c, d, e, f, g, h, i, j, k, l, _, _, _] = *bytes;
         Header {
             slot,
             gate,
             sequence: u64::from_be_bytes([a, b, c, d, e, f, g, h]),
-            length: u32::from_be_bytes([i, j, k, l]),
+            size: u32::from_be_bytes([i, j, k, l]),
         }
     }
 
     /// The bytes between the gate and the payload.
-    pub(crate) fn spell(sequence: u64, length: u32) -> [u8; HEADER - 1]
-        ensures { result ≡ to_be_bytes w64 sequence ++ to_be_bytes w32 length ++ (0 ∷ 0 ∷ 0 ∷ []) }
+    pub(crate) fn spell(sequence: u64, size: u32) -> [u8; HEADER - 1]
+        ensures { result ≡ to_be_bytes w64 sequence ++ to_be_bytes w32 size ++ (0 ∷ 0 ∷ 0 ∷ []) }
     {
         let mut bytes = [0; HEADER - 1];
         bytes[..8].copy_from_slice(&sequence.to_be_bytes());
-        bytes[8..12].copy_from_slice(&length.to_be_bytes());
+        bytes[8..12].copy_from_slice(&size.to_be_bytes());
         bytes
     }
 
@@ -59,9 +60,10 @@ impl Header {
 
     /// The header of a slot that is open alone.
     fn whole(self, capacity: u32) -> Result<Header, AttachFault>
-        ensures { result ≡ (if nat_le self.length capacity then Ok self else Err (AttachFault.Damaged self.slot self.sequence self.length)) }
+        ensures { result ≡ (if nat_le self.size capacity
+            then Ok self else Err (AttachFault.Damaged self.slot self.sequence self.size)) }
     {
-        if self.length <= capacity {
+        if self.size <= capacity {
             Ok(self)
         } else {
             Err(self.damage())
@@ -69,12 +71,12 @@ impl Header {
     }
 
     fn damage(self) -> AttachFault
-        ensures { result ≡ AttachFault.Damaged self.slot self.sequence self.length }
+        ensures { result ≡ AttachFault.Damaged self.slot self.sequence self.size }
     {
         AttachFault::Damaged {
             slot: self.slot,
             sequence: self.sequence,
-            length: self.length,
+            length: self.size,
         }
     }
 }
@@ -100,9 +102,9 @@ fn judge_open(capacity: u32, first: Header, second: Header) -> Result<Header, At
     requires second_gate { second.gate ≡ open_gate }
     ensures { Judges capacity first second result }
 {
-    if first.length > capacity || first.sequence == second.sequence {
+    if first.size > capacity || first.sequence == second.sequence {
         Err(first.damage())
-    } else if second.length > capacity {
+    } else if second.size > capacity {
         Err(second.damage())
     } else if second.sequence < first.sequence {
         Ok(first)

@@ -5,7 +5,7 @@
 //! slot with the greater sequence. A value is replaced in three steps, each with a type of its own: `clear`
 //! closes the gate of the other slot, `fill` writes the next sequence and the payload behind that gate, and
 //! `publish` opens it. Each step is synced before the next, so a gate that a crash tears can open only a value
-//! that is whole.
+//! that is whole. [`Ready::replace`] makes the three in one.
 //!
 //! The states [`Ready`], [`Cleared`] and [`Filled`] are plain values beside the disk, each consumed by its next
 //! call. After a refusal the state is spent, and [`attach`] finds the cell again. No call takes memory.
@@ -18,14 +18,15 @@ mod laws;
 mod reading;
 mod region;
 mod slot;
+mod standing;
 mod state;
 
 pub use fault::{AttachFault, ClearFault, FormatFault};
 pub use formatting::format;
 pub use laws::{stays_cleared, stays_filled, stays_ready};
-pub use reading::{attach, read};
+pub use reading::attach;
 pub use region::Region;
-pub use state::{Cleared, Filled, Ready};
+pub use state::{Cleared, Filled, Ready, read};
 
 #[cfg(test)]
 mod tests;

@@ -1,65 +1,34 @@
-ghost use Rattle.std.specs.Prelude.{◌≡◌, ℕ, ◌+◌, ◌*◌, ◌^◌, ◌<◌, ◌≤◌, List, length, IfOk, OnOk, is_err, Err, false};
+//! Finding the cell of a region.
+ghost use Rattle.std.specs.Prelude.{◌≡◌, ℕ, ◌+◌, ◌*◌, ◌^◌, ◌<◌, ◌≤◌, IfOk, Err, false};
 ghost use Rattle.sz_spec.specs.Cause.{HasCause};
-ghost use Rattle.sz_disk.specs.Disk.{LeavesOnly, NothingNew};
-ghost use Rattle.sz_cell.specs.Cell.{region_size, IsReady, MeansAsRead, ReadMeans, ReadStands};
+ghost use Rattle.sz_disk.specs.Disk.{IsStill, IsSynced};
+ghost use Rattle.sz_cell.specs.Cell.{ReadMeans};
 ghost use Rattle.sz_cell.specs.Fault.{attach_failed};
-ghost use Rattle.sz_cell.specs.Meaning.{none, damaged, value};
+ghost use Rattle.sz_cell.specs.Meaning.{none, damaged};
+ghost use Rattle.sz_cell.specs.Slot.{region_size};
+ghost use Rattle.sz_cell.specs.Transition.{IsAttached};
 
-use crate::header::{HEADER, judge};
-use crate::slot::{barrier, read_header};
+use crate::header::judge;
+use crate::slot::read_headers;
+use crate::standing::Standing;
 use crate::{AttachFault, Ready, Region};
-use sz_base::Failed;
 use sz_disk::Disk;
 
 /// Finds the cell of a region, as it is also after a crash at any moment. It begins with a sync and writes
-/// nothing. Each answer but `Failed` is what the region means as the disk reads it.
+/// nothing: whatever it answers but `Failed`, from then on a crash leaves what a read gives. Each of these
+/// answers is what the region means as the disk reads it.
 pub fn attach<D: Disk>(disk: &mut D, region: Region) -> Result<Ready, AttachFault>
-    requires { region.at + region_size region.capacity ≤ D.size_of disk.old }
-    ensures region { IfOk result
-        (λ ready. (ready.at ≡ region.at) × (ready.capacity ≡ region.capacity)) }
-    ensures ok { IfOk result (λ ready. IsReady (D.reads disk.new) (D.may_leave disk.new) ready) }
-    ensures value { IfOk result (λ ready. ReadStands ready (D.reads disk.old)) }
-    ensures now { OnOk result
-        ((image : List ℕ) → D.may_leave disk.new image → MeansAsRead region.at region.capacity (D.reads disk.old) image) }
+    requires { region.at + region_size region.capacity ≤ (D.seen disk.old).size }
+    ensures ok { IfOk result (IsAttached region.at region.capacity (D.seen disk.new)) }
     ensures not_formatted { result ≡ Err AttachFault.NotFormatted
-        → ReadMeans region.at region.capacity (D.reads disk.old) none }
+        → ReadMeans region.at region.capacity (D.seen disk.old).reads none }
     ensures damaged { (slot sequence length : ℕ) → result ≡ Err (AttachFault.Damaged slot sequence length)
-        → ReadMeans region.at region.capacity (D.reads disk.old) (damaged slot sequence length) }
-    ensures seen { attach_failed result ≡ false → D.reads disk.new ≡ D.reads disk.old }
-    ensures crash { NothingNew (D.may_leave disk.old) (D.may_leave disk.new) }
-    ensures any_moment { LeavesOnly D.moment D.left_since disk.old disk.new (D.may_leave disk.old) }
-    ensures size { D.size_of disk.new ≡ D.size_of disk.old }
-    ensures cause { HasCause (D.faults disk.old) (D.faults disk.new) (attach_failed result) }
+        → ReadMeans region.at region.capacity (D.seen disk.old).reads (damaged slot sequence length) }
+    ensures synced { attach_failed result ≡ false → IsSynced (D.seen disk.old) (D.seen disk.new) }
+    ensures still { IsStill (D.seen disk.old) (D.seen disk.new) }
+    ensures cause { HasCause (D.seen disk.old).faults (D.seen disk.new).faults (attach_failed result) }
 {
-    let size = disk.size();
-    prove!(region.at <= size);
-    barrier(disk)?;
-    let first = read_header(disk, region, 0)?;
-    let second = read_header(disk, region, 1)?;
+    let (first, second) = read_headers(disk, region)?;
     let found = judge(region.capacity, first, second)?;
-    Ok(Ready {
-        region,
-        slot: found.slot,
-        sequence: found.sequence,
-        count: found.length,
-    })
-}
-
-/// Reads the value of a cell.
-pub fn read<D: Disk>(ready: &Ready, disk: &mut D, into: &mut [u8]) -> Result<(), Failed>
-    requires within { ready.now.at + region_size ready.now.capacity ≤ D.size_of disk.old }
-    requires length { length into.old ≡ ready.now.size }
-    ensures payload { IsReady (D.reads disk.old) (D.may_leave disk.old) ready.now
-        → OnOk result (ReadMeans ready.now.at ready.now.capacity (D.reads disk.old)
-        (value ready.now.slot ready.now.sequence into.new)) }
-    ensures says { IsReady (D.reads disk.old) (D.may_leave disk.old) ready.now
-        → IsReady (D.reads disk.new) (D.may_leave disk.new) ready.now }
-    ensures seen { D.reads disk.new ≡ D.reads disk.old }
-    ensures crash { NothingNew (D.may_leave disk.old) (D.may_leave disk.new) }
-    ensures any_moment { LeavesOnly D.moment D.left_since disk.old disk.new (D.may_leave disk.old) }
-    ensures size { D.size_of disk.new ≡ D.size_of disk.old }
-    ensures cause { HasCause (D.faults disk.old) (D.faults disk.new) (is_err result) }
-{
-    let place = ready.region.place(ready.slot) + HEADER as u64;
-    disk.read(place, into)
+    Ok(Ready::at(Standing::found(region, found)))
 }

@@ -1,5 +1,6 @@
+//! Where a cell lies on a disk.
 ghost use Rattle.std.specs.Prelude.{◌≡◌, ◌+◌, ◌*◌, ◌^◌, ◌<◌, ◌≤◌, length};
-ghost use Rattle.sz_cell.specs.Slot.{place};
+ghost use Rattle.sz_cell.specs.Slot.{place, region_size};
 
 use crate::header::HEADER;
 
@@ -15,7 +16,7 @@ pub struct Region {
 impl Region {
     /// Where a slot begins, 0 or 1.
     pub(crate) fn place(self, slot: u8) -> u64
-        requires { self.at + 2 * (16 + self.capacity) < 2 ^ 64 }
+        requires { self.at + region_size self.capacity < 2 ^ 64 }
         ensures { result ≡ place self.at self.capacity slot }
     {
         if slot == 0 {
@@ -26,7 +27,7 @@ impl Region {
     }
 
     /// The length of a payload that fits.
-    pub(crate) fn length_of(self, payload: &[u8]) -> u32
+    pub(crate) fn size_of(self, payload: &[u8]) -> u32
         requires { length payload.now ≤ self.capacity }
         ensures same { result ≡ length payload.now }
         ensures short { length payload.now < 2 ^ 32 }

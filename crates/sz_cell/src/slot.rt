@@ -1,60 +1,71 @@
+//! The calls on the disk that a cell is made of: one slot's header read, its gate or the rest written and synced.
 ghost use Rattle.std.specs.Prelude.{◌≡◌, ℕ, ◌+◌, ◌*◌, ◌^◌, ◌<◌, ◌≤◌, List, [], ◌∷◌, length, IfOk, OnOk, is_err};
-ghost use Rattle.std.specs.Option.{option_map};
 ghost use Rattle.sz_spec.specs.Cause.{HasCause};
-ghost use Rattle.sz_disk.specs.Image.{patched};
-ghost use Rattle.sz_disk.specs.Disk.{IsSettled, LeavesOnly, NothingNew};
-ghost use Rattle.sz_cell.specs.Cell.{TornFrom, region_size};
-ghost use Rattle.sz_cell.specs.Header.{HeaderRead};
-ghost use Rattle.sz_cell.specs.Slot.{spelled};
+ghost use Rattle.sz_disk.specs.Disk.{IsQuiet, IsStill, IsSynced};
+ghost use Rattle.sz_cell.specs.Header.{HeaderRead, HeadersRead};
+ghost use Rattle.sz_cell.specs.Slot.{header_size, region_size, spelled};
+ghost use Rattle.sz_cell.specs.Write.{ClosesGate, Writes};
 
 use crate::Region;
-use crate::header::{HEADER, Header};
+use crate::header::{CLOSED, HEADER, Header, OPEN};
 use sz_base::Failed;
 use sz_disk::Disk;
 
-/// Syncs: from here on a crash leaves what a read gives.
-pub(crate) fn barrier<D: Disk>(disk: &mut D) -> Result<(), Failed>
-    ensures settled { OnOk result (IsSettled (D.reads disk.new) (D.may_leave disk.new)) }
-    ensures seen { OnOk result (D.reads disk.new ≡ D.reads disk.old) }
-    ensures crash { NothingNew (D.may_leave disk.old) (D.may_leave disk.new) }
-    ensures any_moment { LeavesOnly D.moment D.left_since disk.old disk.new (D.may_leave disk.old) }
-    ensures size { D.size_of disk.new ≡ D.size_of disk.old }
-    ensures cause { HasCause (D.faults disk.old) (D.faults disk.new) (is_err result) }
+/// Syncs, and reads the headers of both slots. It writes nothing.
+pub(crate) fn read_headers<D: Disk>(
+    disk: &mut D,
+    region: Region,
+) -> Result<(Header, Header), Failed>
+    requires { region.at + region_size region.capacity ≤ (D.seen disk.old).size }
+    ensures slots { IfOk result (λ pair. (pair.0.slot ≡ 0) × (pair.1.slot ≡ 1)) }
+    ensures headers { IfOk result
+        (λ pair. HeadersRead region.at region.capacity (D.seen disk.old).reads pair.0 pair.1) }
+    ensures synced { OnOk result (IsSynced (D.seen disk.old) (D.seen disk.new)) }
+    ensures still { IsStill (D.seen disk.old) (D.seen disk.new) }
+    ensures cause { HasCause (D.seen disk.old).faults (D.seen disk.new).faults (is_err result) }
 {
-    disk.sync()
+    disk.sync()?;
+    let first = read_header(disk, region, 0)?;
+    let second = read_header(disk, region, 1)?;
+    Ok((first, second))
 }
 
 /// Reads the header of a slot, 0 or 1.
 pub(crate) fn read_header<D: Disk>(disk: &mut D, region: Region, slot: u8) -> Result<Header, Failed>
-    requires word { region.at + region_size region.capacity < 2 ^ 64 }
-    requires within { region.at + region_size region.capacity ≤ D.size_of disk.old }
+    requires within { region.at + region_size region.capacity ≤ (D.seen disk.old).size }
     requires slot { slot < 2 }
     ensures slot { IfOk result (λ header. header.slot ≡ slot) }
-    ensures header { IfOk result (HeaderRead region.at region.capacity slot (D.reads disk.old)) }
-    ensures seen { D.reads disk.new ≡ D.reads disk.old }
-    ensures crash { NothingNew (D.may_leave disk.old) (D.may_leave disk.new) }
-    ensures any_moment { LeavesOnly D.moment D.left_since disk.old disk.new (D.may_leave disk.old) }
-    ensures size { D.size_of disk.new ≡ D.size_of disk.old }
-    ensures cause { HasCause (D.faults disk.old) (D.faults disk.new) (is_err result) }
+    ensures header { IfOk result (HeaderRead region.at region.capacity slot (D.seen disk.old).reads) }
+    ensures quiet { IsQuiet (D.seen disk.old) (D.seen disk.new) }
+    ensures cause { HasCause (D.seen disk.old).faults (D.seen disk.new).faults (is_err result) }
 {
     let mut bytes = [0; HEADER];
     disk.read(region.place(slot), &mut bytes)?;
     Ok(Header::read(slot, &bytes))
 }
 
-/// Writes the gate of the slot at this place, and syncs.
+/// Writes a gate at its place, and syncs.
 pub(crate) fn write_gate<D: Disk>(disk: &mut D, place: u64, gate: u8) -> Result<(), Failed>
-    requires { place + 1 ≤ D.size_of disk.old }
-    ensures written { OnOk result
-        (D.reads disk.new ≡ option_map (patched place (gate ∷ [])) (D.reads disk.old)) }
-    ensures settled { OnOk result (IsSettled (D.reads disk.new) (D.may_leave disk.new)) }
-    ensures any_moment { LeavesOnly D.moment D.left_since disk.old disk.new
-        (TornFrom place 1 (D.may_leave disk.old)) }
-    ensures size { D.size_of disk.new ≡ D.size_of disk.old }
-    ensures cause { HasCause (D.faults disk.old) (D.faults disk.new) (is_err result) }
+    requires { place + 1 ≤ (D.seen disk.old).size }
+    ensures wrote { Writes place (gate ∷ []) (D.seen disk.old) (D.seen disk.new) result }
+    ensures cause { HasCause (D.seen disk.old).faults (D.seen disk.new).faults (is_err result) }
 {
     disk.write_at(place, &[gate])?;
-    barrier(disk)
+    disk.sync()
+}
+
+/// Closes the gate at this place where it reads open, and syncs then.
+pub(crate) fn close_gate<D: Disk>(disk: &mut D, place: u64) -> Result<(), Failed>
+    requires { place + 1 ≤ (D.seen disk.old).size }
+    ensures closes { ClosesGate place (D.seen disk.old) (D.seen disk.new) result }
+    ensures cause { HasCause (D.seen disk.old).faults (D.seen disk.new).faults (is_err result) }
+{
+    let mut gate = [CLOSED];
+    disk.read(place, &mut gate)?;
+    if gate[0] == OPEN {
+        write_gate(disk, place, CLOSED)?;
+    }
+    Ok(())
 }
 
 /// Writes all but the gate of the slot at this place, and syncs.
@@ -64,19 +75,13 @@ pub(crate) fn write_behind<D: Disk>(
     sequence: u64,
     payload: &[u8],
 ) -> Result<(), Failed>
-    requires word { place + 16 < 2 ^ 64 }
-    requires fits { place + 16 + length payload.now ≤ D.size_of disk.old }
+    requires fits { place + header_size + length payload.now ≤ (D.seen disk.old).size }
     requires short { length payload.now < 2 ^ 32 }
-    ensures written { OnOk result
-        (D.reads disk.new ≡ option_map (patched (place + 1) (spelled sequence payload.now)) (D.reads disk.old)) }
-    ensures settled { OnOk result (IsSettled (D.reads disk.new) (D.may_leave disk.new)) }
-    ensures any_moment { LeavesOnly D.moment D.left_since disk.old disk.new
-        (TornFrom (place + 1) (15 + length payload.now) (D.may_leave disk.old)) }
-    ensures size { D.size_of disk.new ≡ D.size_of disk.old }
-    ensures cause { HasCause (D.faults disk.old) (D.faults disk.new) (is_err result) }
+    ensures wrote { Writes (place + 1) (spelled sequence payload.now) (D.seen disk.old) (D.seen disk.new) result }
+    ensures cause { HasCause (D.seen disk.old).faults (D.seen disk.new).faults (is_err result) }
 {
     let header = Header::spell(sequence, payload.len() as u32);
     disk.write_at(place + 1, &header)?;
     disk.write_at(place + HEADER as u64, payload)?;
-    barrier(disk)
+    disk.sync()
 }

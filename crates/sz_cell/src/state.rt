@@ -1,13 +1,17 @@
-ghost use Rattle.std.specs.Prelude.{◌≡◌, ◌↔◌, List, ℕ, ◌+◌, ◌-◌, ◌*◌, ◌^◌, ◌<◌, ◌≤◌, length, IfOk, OnOk, OnErr, is_err, Err};
+//! The states of a cell, and the calls that replace its value.
+ghost use Rattle.std.specs.Prelude.{◌≡◌, ◌↔◌, List, [], ◌∷◌, ℕ, ◌+◌, ◌*◌, ◌^◌, ◌<◌, ◌≤◌, length, IfOk, OnOk, is_err, Err};
 ghost use Rattle.sz_spec.specs.Cause.{HasCause};
-ghost use Rattle.sz_disk.specs.Disk.{LeavesOnly};
-ghost use Rattle.sz_cell.specs.Cell.{Kept, Pending, region_size, opened, IsReady, IsCleared, IsFilled, HasPayload, MeansAsRead, MeansOldOrNew, TornFrom, filled_value};
-ghost use Rattle.sz_cell.specs.Meaning.{meaning, read_meaning};
+ghost use Rattle.sz_disk.specs.Disk.{IsQuiet};
+ghost use Rattle.sz_cell.specs.Cell.{Kept, Pending, next_of, spare_place, IsReady, IsCleared, IsFilled, WhereTold};
 ghost use Rattle.sz_cell.specs.Fault.{clear_failed};
+ghost use Rattle.sz_cell.specs.Slot.{region_size, open_gate, spelled};
+ghost use Rattle.sz_cell.specs.Transition.{ClearRan, FillRan, Replaced};
+ghost use Rattle.sz_cell.specs.Write.{ClosesGate, Writes};
 
-use crate::header::{CLOSED, OPEN};
-use crate::slot::{write_behind, write_gate};
-use crate::{ClearFault, Region};
+use crate::ClearFault;
+use crate::header::OPEN;
+use crate::slot::{close_gate, write_behind, write_gate};
+use crate::standing::Standing;
 use std::marker::Model;
 use sz_base::Failed;
 use sz_disk::Disk;
@@ -15,193 +19,163 @@ use sz_disk::Disk;
 /// A cell with a value.
 #[derive(Debug, Drop)]
 pub struct Ready {
-    pub(crate) region: Region,
-    pub(crate) slot: u8,
-    pub(crate) sequence: u64,
-    pub(crate) count: u32,
+    standing: Standing,
 }
 
 impl Model for Ready {
+    ghost use Rattle.sz_cell.specs.Cell.{Kept};
+
     ghost Value = { Kept };
 
-    ghost view = { λ r. record { at = r.region.at; capacity = r.region.capacity; slot = r.slot; sequence = r.sequence; size = r.count } };
-
-    ghost invariant = { λ r. (r.slot < 2) × (r.region.at + 2 * (16 + r.region.capacity) < 2 ^ 64) × (r.count ≤ r.region.capacity) };
+    ghost view = { λ r. r.standing };
 }
 
 /// A cell with a value, whose other slot is closed.
 #[derive(Debug, Drop)]
 pub struct Cleared {
-    region: Region,
-    slot: u8,
-    sequence: u64,
-    count: u32,
+    standing: Standing,
 }
 
 impl Model for Cleared {
+    ghost use Rattle.std.specs.Prelude.{◌+◌, ◌^◌, ◌<◌};
+    ghost use Rattle.sz_cell.specs.Cell.{Kept};
+
     ghost Value = { Kept };
 
-    ghost view = { λ r. record { at = r.region.at; capacity = r.region.capacity; slot = r.slot; sequence = r.sequence; size = r.count } };
+    ghost view = { λ c. c.standing };
 
-    ghost invariant = { λ r. (r.slot < 2) × (r.sequence + 1 < 2 ^ 64) × (r.region.at + 2 * (16 + r.region.capacity) < 2 ^ 64) };
+    ghost invariant = { λ c. c.standing.sequence + 1 < 2 ^ 64 };
 }
 
 /// A cell with a value, whose other slot holds the next one behind its closed gate.
 #[derive(Debug, Drop)]
 pub struct Filled {
-    region: Region,
-    slot: u8,
-    sequence: u64,
-    count: u32,
-    next_count: u32,
+    standing: Standing,
+    size: u32,
 }
 
 impl Model for Filled {
+    ghost use Rattle.std.specs.Prelude.{◌+◌, ◌^◌, ◌<◌, ◌≤◌};
+    ghost use Rattle.sz_cell.specs.Cell.{Pending};
+
     ghost Value = { Pending };
 
-    ghost view = { λ r. record { kept = record { at = r.region.at; capacity = r.region.capacity; slot = r.slot; sequence = r.sequence; size = r.count }; size = r.next_count } };
+    ghost view = { λ f. record { kept = f.standing; size = f.size } };
 
-    ghost invariant = { λ r. (r.slot < 2) × (r.sequence + 1 < 2 ^ 64) × (r.region.at + 2 * (16 + r.region.capacity) < 2 ^ 64) × (r.next_count ≤ r.region.capacity) };
+    ghost invariant = { λ f. (f.standing.sequence + 1 < 2 ^ 64) × (f.size ≤ f.standing.capacity) };
 }
 
 impl Ready {
+    /// The cell whose value stands here.
+    pub(crate) fn at(standing: Standing) -> Ready
+        ensures { result ≡ standing }
+    {
+        Ready { standing }
+    }
+
     /// How many bytes the payload has.
     pub fn length(&self) -> u32
         ensures { result ≡ self.now.size }
     {
-        self.count
+        self.standing.size()
     }
 
-    /// Closes the other slot, so that it can be filled.
-    pub fn clear<D: Disk>(self, disk: &mut D) -> Result<Cleared, ClearFault>
-        requires within { self.at + region_size self.capacity ≤ D.size_of disk.old }
-        ensures same { IfOk result (λ cleared. cleared ≡ self) }
-        ensures ok { IsReady (D.reads disk.old) (D.may_leave disk.old) self
-            → OnOk result (IsCleared (D.reads disk.new) (D.may_leave disk.new) self) }
-        ensures value { IsReady (D.reads disk.old) (D.may_leave disk.old) self
-            → OnOk result
-            (read_meaning self.at self.capacity (D.reads disk.new) ≡ read_meaning self.at self.capacity (D.reads disk.old)) }
+    /// Replaces the value: clear, fill and publish in one. A crash at any moment leaves the value from before or
+    /// the new one; after success it leaves the new one, and everything on the disk is synced. At `Exhausted`,
+    /// where the value has the last sequence, nothing was written.
+    pub fn replace<D: Disk>(self, disk: &mut D, payload: &[u8]) -> Result<Ready, ClearFault>
+        requires within { self.at + region_size self.capacity ≤ (D.seen disk.old).size }
+        requires fits { length payload.now ≤ self.capacity }
+        ensures same { IfOk result (λ ready. ready ≡ next_of (record { kept = self; size = length payload.now })) }
+        ensures replaced { (before : List ℕ) → IsReady (D.seen disk.old) self before
+            → Replaced (D.seen disk.old) (D.seen disk.new) (record { kept = self; size = length payload.now })
+            before payload.now result }
         ensures exhausted { (sequence : ℕ) → (result ≡ Err (ClearFault.Exhausted sequence)) ↔
             ((sequence ≡ self.sequence) × (self.sequence + 1 ≡ 2 ^ 64)) }
         ensures untouched { (sequence : ℕ) → result ≡ Err (ClearFault.Exhausted sequence) → disk.new ≡ disk.old }
-        ensures any_moment { IsReady (D.reads disk.old) (D.may_leave disk.old) self
-            → LeavesOnly D.moment D.left_since disk.old disk.new
-            (MeansAsRead self.at self.capacity (D.reads disk.old)) }
-        ensures now { IsReady (D.reads disk.old) (D.may_leave disk.old) self
-            → (image : List ℕ) → D.may_leave disk.new image
-            → MeansAsRead self.at self.capacity (D.reads disk.old) image }
-        ensures elsewhere { LeavesOnly D.moment D.left_since disk.old disk.new
-            (TornFrom self.at (region_size self.capacity) (D.may_leave disk.old)) }
-        ensures size { D.size_of disk.new ≡ D.size_of disk.old }
-        ensures cause { HasCause (D.faults disk.old) (D.faults disk.new) (clear_failed result) }
+        ensures wrote { Writes (spare_place self) (open_gate ∷ spelled (self.sequence + 1) payload.now)
+            (D.seen disk.old) (D.seen disk.new) result }
+        ensures cause { HasCause (D.seen disk.old).faults (D.seen disk.new).faults (clear_failed result) }
     {
-        let Ready {
-            region,
-            slot,
-            sequence,
-            count,
-        } = self;
+        let cleared = self.clear(disk)?;
+        let filled = cleared.fill(disk, payload)?;
+        let ready = filled.publish(disk)?;
+        Ok(ready)
+    }
+
+    /// Closes the other slot, so that it can be filled. At `Exhausted`, where the value has the last sequence,
+    /// nothing was written.
+    pub fn clear<D: Disk>(self, disk: &mut D) -> Result<Cleared, ClearFault>
+        requires within { self.at + region_size self.capacity ≤ (D.seen disk.old).size }
+        ensures same { IfOk result (λ cleared. cleared ≡ self) }
+        ensures ran { (payload : List ℕ) → IsReady (D.seen disk.old) self payload
+            → ClearRan (D.seen disk.old) (D.seen disk.new) self payload result }
+        ensures exhausted { (sequence : ℕ) → (result ≡ Err (ClearFault.Exhausted sequence)) ↔
+            ((sequence ≡ self.sequence) × (self.sequence + 1 ≡ 2 ^ 64)) }
+        ensures untouched { (sequence : ℕ) → result ≡ Err (ClearFault.Exhausted sequence) → disk.new ≡ disk.old }
+        ensures closes { ClosesGate (spare_place self) (D.seen disk.old) (D.seen disk.new) result }
+        ensures cause { HasCause (D.seen disk.old).faults (D.seen disk.new).faults (clear_failed result) }
+    {
+        let Ready { standing } = self;
+        let sequence = standing.sequence();
         if sequence == u64::MAX {
             return Err(ClearFault::Exhausted { sequence });
         }
-        let place = region.place(1 - slot);
-        let mut gate = [CLOSED];
-        disk.read(place, &mut gate)?;
-        let cleared = Cleared {
-            region,
-            slot,
-            sequence,
-            count,
-        };
-        if gate[0] != OPEN {
-            return Ok(cleared);
-        }
-        write_gate(disk, place, CLOSED)?;
-        Ok(cleared)
+        close_gate(disk, standing.spare_place())?;
+        Ok(Cleared { standing })
     }
 }
 
 impl Cleared {
     /// Writes the next value into the closed slot, behind its gate.
     pub fn fill<D: Disk>(self, disk: &mut D, payload: &[u8]) -> Result<Filled, Failed>
-        requires within { self.at + region_size self.capacity ≤ D.size_of disk.old }
+        requires within { self.at + region_size self.capacity ≤ (D.seen disk.old).size }
         requires fits { length payload.now ≤ self.capacity }
-        ensures same { IfOk result
-            (λ filled. (filled.kept ≡ self) × (filled.size ≡ length payload.now)) }
-        ensures ok { IsCleared (D.reads disk.old) (D.may_leave disk.old) self
-            → OnOk result
-            (IsFilled (D.reads disk.new) (D.may_leave disk.new) self (length payload.now)) }
-        ensures payload { IsCleared (D.reads disk.old) (D.may_leave disk.old) self
-            → OnOk result (HasPayload self (D.reads disk.new) payload.now) }
-        ensures value { IsCleared (D.reads disk.old) (D.may_leave disk.old) self
-            → OnOk result
-            (read_meaning self.at self.capacity (D.reads disk.new) ≡ read_meaning self.at self.capacity (D.reads disk.old)) }
-        ensures any_moment { IsCleared (D.reads disk.old) (D.may_leave disk.old) self
-            → LeavesOnly D.moment D.left_since disk.old disk.new
-            (MeansAsRead self.at self.capacity (D.reads disk.old)) }
-        ensures now { IsCleared (D.reads disk.old) (D.may_leave disk.old) self
-            → (image : List ℕ) → D.may_leave disk.new image
-            → MeansAsRead self.at self.capacity (D.reads disk.old) image }
-        ensures elsewhere { LeavesOnly D.moment D.left_since disk.old disk.new
-            (TornFrom self.at (region_size self.capacity) (D.may_leave disk.old)) }
-        ensures size { D.size_of disk.new ≡ D.size_of disk.old }
-        ensures cause { HasCause (D.faults disk.old) (D.faults disk.new) (is_err result) }
+        ensures same { IfOk result (λ filled. filled ≡ record { kept = self; size = length payload.now }) }
+        ensures ran { (before : List ℕ) → IsCleared (D.seen disk.old) self before
+            → FillRan (D.seen disk.old) (D.seen disk.new) (record { kept = self; size = length payload.now })
+            before payload.now result }
+        ensures wrote { Writes (spare_place self + 1) (spelled (self.sequence + 1) payload.now)
+            (D.seen disk.old) (D.seen disk.new) result }
+        ensures cause { HasCause (D.seen disk.old).faults (D.seen disk.new).faults (is_err result) }
     {
-        let Cleared {
-            region,
-            slot,
-            sequence,
-            count,
-        } = self;
-        let next_count = region.length_of(payload);
-        write_behind(disk, region.place(1 - slot), sequence + 1, payload)?;
-        Ok(Filled {
-            region,
-            slot,
-            sequence,
-            count,
-            next_count,
-        })
+        let Cleared { standing } = self;
+        let size = standing.size_of(payload);
+        let sequence = standing.sequence() + 1;
+        write_behind(disk, standing.spare_place(), sequence, payload)?;
+        Ok(Filled { standing, size })
     }
 }
 
 impl Filled {
     /// Opens the gate of the slot that was filled: its value is the cell's from then on.
     pub fn publish<D: Disk>(self, disk: &mut D) -> Result<Ready, Failed>
-        requires within { self.kept.at + region_size self.kept.capacity ≤ D.size_of disk.old }
-        ensures same { IfOk result (λ ready. ready ≡ opened self) }
-        ensures ok { IsFilled (D.reads disk.old) (D.may_leave disk.old) self.kept self.size
-            → OnOk result (IsReady (D.reads disk.new) (D.may_leave disk.new) (opened self)) }
-        ensures published { IsFilled (D.reads disk.old) (D.may_leave disk.old) self.kept self.size
-            → OnOk result
-            ((image : List ℕ) → D.may_leave disk.new image → meaning self.kept.at self.kept.capacity image ≡ filled_value self.kept (D.reads disk.old)) }
-        ensures value { IsFilled (D.reads disk.old) (D.may_leave disk.old) self.kept self.size
-            → OnOk result
-            (read_meaning self.kept.at self.kept.capacity (D.reads disk.new) ≡ filled_value self.kept (D.reads disk.old)) }
-        ensures any_moment { IsFilled (D.reads disk.old) (D.may_leave disk.old) self.kept self.size
-            → LeavesOnly D.moment D.left_since disk.old disk.new
-            (MeansOldOrNew self.kept (D.reads disk.old)) }
-        ensures now { IsFilled (D.reads disk.old) (D.may_leave disk.old) self.kept self.size
-            → (image : List ℕ) → D.may_leave disk.new image
-            → MeansOldOrNew self.kept (D.reads disk.old) image }
-        ensures elsewhere { LeavesOnly D.moment D.left_since disk.old disk.new
-            (TornFrom self.kept.at (region_size self.kept.capacity) (D.may_leave disk.old)) }
-        ensures size { D.size_of disk.new ≡ D.size_of disk.old }
-        ensures cause { HasCause (D.faults disk.old) (D.faults disk.new) (is_err result) }
+        requires within { self.kept.at + region_size self.kept.capacity ≤ (D.seen disk.old).size }
+        ensures same { IfOk result (λ ready. ready ≡ next_of self) }
+        ensures ran { (before after : List ℕ) → IsFilled (D.seen disk.old) self before after
+            → Replaced (D.seen disk.old) (D.seen disk.new) self before after result }
+        ensures wrote { Writes (spare_place self.kept) (open_gate ∷ []) (D.seen disk.old) (D.seen disk.new) result }
+        ensures cause { HasCause (D.seen disk.old).faults (D.seen disk.new).faults (is_err result) }
     {
-        let Filled {
-            region,
-            slot,
-            sequence,
-            next_count,
-            ..
-        } = self;
-        write_gate(disk, region.place(1 - slot), OPEN)?;
+        let Filled { standing, size } = self;
+        write_gate(disk, standing.spare_place(), OPEN)?;
         Ok(Ready {
-            region,
-            slot: 1 - slot,
-            sequence: sequence + 1,
-            count: next_count,
+            standing: standing.next(size),
         })
     }
+}
+
+/// Reads the value of a cell. After a refusal `into` may hold any bytes.
+pub fn read<D: Disk>(ready: &Ready, disk: &mut D, into: &mut [u8]) -> Result<(), Failed>
+    requires within { ready.now.at + region_size ready.now.capacity ≤ (D.seen disk.old).size }
+    requires length { length into.old ≡ ready.now.size }
+    ensures payload { (payload : List ℕ) → IsReady (D.seen disk.old) ready.now payload
+        → OnOk result (WhereTold (D.seen disk.old).reads (into.new ≡ payload)) }
+    ensures ready { (payload : List ℕ) → IsReady (D.seen disk.old) ready.now payload
+        → IsReady (D.seen disk.new) ready.now payload }
+    ensures quiet { IsQuiet (D.seen disk.old) (D.seen disk.new) }
+    ensures cause { HasCause (D.seen disk.old).faults (D.seen disk.new).faults (is_err result) }
+{
+    let place = ready.standing.payload_place();
+    disk.read(place, into)
 }

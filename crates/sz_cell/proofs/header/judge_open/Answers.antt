@@ -15,7 +15,9 @@ returns-then-first-second c =
 pub returns-then-second-capacity : goal.returns-then-second-capacity
 returns-then-second-capacity c =
     rw (c.damage-then-second-capacity.ensures, c.requires.second)
-    (λ p q. second_long c.args.capacity (slot_with c.args.first p) (slot_with c.args.second q) (λ is. c.if-first-second.false) c.requires.second_gate c.if-second-capacity.true)
+    (λ p q.
+    second_long c.args.capacity (slot_with c.args.first p) (slot_with c.args.second q) (λ is. c.if-first-second.false)
+    c.requires.second_gate c.if-second-capacity.true)
 
 pub returns-then-second-first : goal.returns-then-second-first
 returns-then-second-first c p q = inl (

@@ -1,7 +1,6 @@
-use Rattle.sz_cell.specs.Elsewhere.{cleared_elsewhere}
+use Rattle.sz_cell.proofs.Elsewhere.{cleared-elsewhere}
 use Rattle.sz_cell.proofs.laws.stays_cleared.Goals as goal
 
 pub returns : goal.returns
-returns g c before after kept from n cleared elsewhere torn =
-    cleared_elsewhere kept (g.D.Disk.reads before) (g.D.Disk.reads after) (g.D.Disk.may_leave before) (g.D.Disk.may_leave after) from n elsewhere torn
-    (λ image left. let read = g.met.D.Disk.tells_reads after image left in (read.0, read.1, g.met.D.Disk.reads_as_left after read.0 read.1)) cleared
+returns g c before after kept payload from n cleared elsewhere torn =
+    cleared-elsewhere (g.D.Disk.seen before) (g.D.Disk.seen after) (g.met.D.Disk.lawful after) kept from n elsewhere torn payload cleared

@@ -1,7 +1,6 @@
-use Rattle.sz_cell.specs.Elsewhere.{filled_elsewhere}
+use Rattle.sz_cell.proofs.Elsewhere.{filled-elsewhere}
 use Rattle.sz_cell.proofs.laws.stays_filled.Goals as goal
 
 pub returns : goal.returns
-returns g c before after pending from n filled elsewhere torn =
-    filled_elsewhere pending.kept (g.D.Disk.reads before) (g.D.Disk.reads after) (g.D.Disk.may_leave before) (g.D.Disk.may_leave after) from n elsewhere torn
-    (λ image left. let read = g.met.D.Disk.tells_reads after image left in (read.0, read.1, g.met.D.Disk.reads_as_left after read.0 read.1)) pending.size filled
+returns g c before after pending payload next from n filled elsewhere torn =
+    filled-elsewhere (g.D.Disk.seen before) (g.D.Disk.seen after) (g.met.D.Disk.lawful after) pending payload next from n elsewhere torn filled

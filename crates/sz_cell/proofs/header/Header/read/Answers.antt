@@ -12,6 +12,6 @@ pub returns-clause-sequence : goal.returns-clause-sequence
 unfolding slot_of
 returns-clause-sequence c = c.from_be_bytes.ensures ∙ ap (from_be_bytes w64) (sym (part-elements c.args.bytes.now 1 8 (omega arith)))
 
-pub returns-clause-length : goal.returns-clause-length
+pub returns-clause-size : goal.returns-clause-size
 unfolding slot_of
-returns-clause-length c = c.from_be_bytes-2.ensures ∙ ap (from_be_bytes w32) (sym (part-elements c.args.bytes.now 9 4 (omega arith)))
+returns-clause-size c = c.from_be_bytes-2.ensures ∙ ap (from_be_bytes w32) (sym (part-elements c.args.bytes.now 9 4 (omega arith)))
