@@ -101,7 +101,7 @@ fn roots_and_signatures(rt: HostRuntime) -> Result<(), Fail> {
             signature: *b"\x20\x85\x87\xad\x11\xf5\xec\x2b\x48\x75\xcc\x82\xc6\xde\x3d\xc8\xa3\x3c\xbc\xf2\x35\x58\x57\xa9\x61\xb9\xd1\x7f\x11\x38\x72\xbb",
         },
     ];
-    for row in rows.iter() {
+    for row in &rows[..] {
         signs(&rt, rt.alloc(), row)?;
     }
     Ok(())
