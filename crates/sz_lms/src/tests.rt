@@ -288,7 +288,7 @@ fn one_tree(rt: HostRuntime) -> Result<(), Fail> {
 #[test]
 fn one_time_signatures(rt: HostRuntime) -> Result<(), Fail> {
     let signed = last_leaf(rt.alloc())?;
-    let public = signed.public.as_slice();
+    let tree_type = signed.public.as_slice().get(4..8).unwrap_or(&[]);
     let one_time = signed.signature.as_slice().get(8..1132).unwrap_or(&[]);
     let message = signed.message.as_slice();
     let id = [0; 16];
@@ -302,7 +302,7 @@ fn one_time_signatures(rt: HostRuntime) -> Result<(), Fail> {
         Err(HssFault::Length)
     );
     assert_eq!(rt;
-        ots_candidate(&id, 31, front(public, 4), message),
+        ots_candidate(&id, 31, tree_type, message),
         Err(HssFault::Scheme)
     );
     Ok(())
