@@ -1,5 +1,5 @@
 //! Making a new cell.
-ghost use Rattle.std.specs.Prelude.{◌≡◌, ℕ, ◌+◌, ◌*◌, ◌^◌, ◌<◌, ◌≤◌, ◌∷◌, length, IfOk, OnOk, Err, false};
+ghost use Rattle.std.specs.Prelude.{◌≡◌, ℕ, ◌+◌, ◌≤◌, ◌∷◌, length, IfOk, OnOk, Err, false};
 ghost use Rattle.sz_spec.specs.Cause.{HasCause};
 ghost use Rattle.sz_disk.specs.Disk.{IsStill, IsSynced, LeavesOnly};
 ghost use Rattle.sz_cell.specs.Cell.{formatted, IsFirstOpen, NoneOpen};

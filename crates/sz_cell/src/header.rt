@@ -1,5 +1,5 @@
 //! What stands before a slot's payload, and which slot has the cell's value by it.
-ghost use Rattle.std.specs.Prelude.{◌≡◌, ℕ, ◌+◌, ◌<◌, ◌≤◌, ◌++◌, List, [], ◌∷◌, ◌==◌, nat_le, if◌then◌else◌, Ok, Err};
+ghost use Rattle.std.specs.Prelude.{◌≡◌, ◌++◌, [], ◌∷◌, ◌==◌, nat_le, if◌then◌else◌, Ok, Err};
 ghost use Rattle.std.specs.Int.{w32, w64, to_be_bytes};
 ghost use Rattle.sz_cell.specs.Header.{Judges};
 ghost use Rattle.sz_cell.specs.Slot.{slot_of, open_gate};

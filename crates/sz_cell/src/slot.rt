@@ -1,5 +1,5 @@
 //! The calls on the disk that a cell is made of: one slot's header read, its gate or the rest written and synced.
-ghost use Rattle.std.specs.Prelude.{◌≡◌, ℕ, ◌+◌, ◌*◌, ◌^◌, ◌<◌, ◌≤◌, List, [], ◌∷◌, length, IfOk, OnOk, is_err};
+ghost use Rattle.std.specs.Prelude.{◌≡◌, ◌+◌, ◌^◌, ◌<◌, ◌≤◌, [], ◌∷◌, length, IfOk, OnOk, is_err};
 ghost use Rattle.sz_spec.specs.Cause.{HasCause};
 ghost use Rattle.sz_disk.specs.Disk.{IsQuiet, IsStill, IsSynced};
 ghost use Rattle.sz_cell.specs.Header.{HeaderRead, HeadersRead};

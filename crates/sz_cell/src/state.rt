@@ -1,5 +1,5 @@
 //! The states of a cell, and the calls that replace its value.
-ghost use Rattle.std.specs.Prelude.{◌≡◌, ◌↔◌, List, [], ◌∷◌, ℕ, ◌+◌, ◌*◌, ◌^◌, ◌<◌, ◌≤◌, length, IfOk, OnOk, is_err, Err};
+ghost use Rattle.std.specs.Prelude.{◌≡◌, ◌↔◌, List, [], ◌∷◌, ℕ, ◌+◌, ◌^◌, ◌<◌, ◌≤◌, length, IfOk, OnOk, is_err, Err};
 ghost use Rattle.sz_spec.specs.Cause.{HasCause};
 ghost use Rattle.sz_disk.specs.Disk.{IsQuiet};
 ghost use Rattle.sz_cell.specs.Cell.{Kept, Pending, next_of, spare_place, IsReady, IsCleared, IsFilled, WhereTold};

@@ -36,11 +36,13 @@ returns-in_err-found-clause-damaged g c slot sequence length is =
 
 pub found-requires-clause-slot : goal.found-requires-clause-slot
 found-requires-clause-slot g c =
-    (judged_found c.args.region.capacity c.in_ok-first.first c.in_ok-first.second c.in_ok-found.found c.in_ok-first.ensures.slots.0 c.in_ok-first.ensures.slots.1 c.in_ok-found.ensures).0
+    (judged_found c.args.region.capacity c.in_ok-first.first c.in_ok-first.second c.in_ok-found.found
+    c.in_ok-first.ensures.slots.0 c.in_ok-first.ensures.slots.1 c.in_ok-found.ensures).0
 
 pub found-requires-clause-fits : goal.found-requires-clause-fits
 found-requires-clause-fits g c =
-    (judged_found c.args.region.capacity c.in_ok-first.first c.in_ok-first.second c.in_ok-found.found c.in_ok-first.ensures.slots.0 c.in_ok-first.ensures.slots.1 c.in_ok-found.ensures).1
+    (judged_found c.args.region.capacity c.in_ok-first.first c.in_ok-first.second c.in_ok-found.found
+    c.in_ok-first.ensures.slots.0 c.in_ok-first.ensures.slots.1 c.in_ok-found.ensures).1
 
 pub returns-clause-ok : goal.returns-clause-ok
 returns-clause-ok g c =
