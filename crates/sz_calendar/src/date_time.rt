@@ -26,7 +26,7 @@ pub struct DateTime {
     pub second: u8,
 }
 
-/// The seconds of a day.
+// The seconds of a day.
 const DAY: i64 = 86_400;
 
 impl DateTime {
@@ -46,7 +46,7 @@ impl DateTime {
         }
     }
 
-    /// The second of a day, on that day.
+    // The second of a day, on that day.
     fn on_day(date: Date, second: u32) -> DateTime
         requires { second < 86_400 }
         ensures { IsTimeAt (epoch_day date *ℤ pos 86_400 +ℤ pos second) (civil_time result) }
@@ -75,7 +75,7 @@ impl DateTime {
     }
 }
 
-/// The day since 1 January 1970 in which a second since the epoch lies, and its second of that day.
+// The day since 1 January 1970 in which a second since the epoch lies, and its second of that day.
 fn split_days(seconds: i64) -> (i64, u32)
     ensures second { result.1 < 86_400 }
     ensures sum { result.0 *ℤ pos 86_400 +ℤ pos result.1 ≡ seconds }
@@ -83,7 +83,7 @@ fn split_days(seconds: i64) -> (i64, u32)
     (seconds.div_euclid(DAY), seconds.rem_euclid(DAY) as u32)
 }
 
-/// The seconds since the epoch at a second of a day since 1 January 1970.
+// The seconds since the epoch at a second of a day since 1 January 1970.
 fn join_days(day: i32, second: u32) -> i64
     requires day { IsEpochDay day }
     requires second { second < 86_400 }
@@ -92,7 +92,7 @@ fn join_days(day: i32, second: u32) -> i64
     i64::from(day) * DAY + i64::from(second)
 }
 
-/// The number of a day since 1 January 1970, or `None` where the calendar has no such day.
+// The number of a day since 1 January 1970, or `None` where the calendar has no such day.
 fn unix_day(year: i16, month: u8, day: u8) -> Option<i32>
     ensures number { SomeIff result (IsDate year month day) (unix_day year month day) }
     ensures bound { IfSome result IsEpochDay }

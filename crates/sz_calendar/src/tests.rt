@@ -2,7 +2,7 @@
 
 use super::*;
 
-/// A row: the seconds, the date and the time of day.
+// A row: the seconds, the date and the time of day.
 type Row = (i64, (i16, u8, u8), (u8, u8, u8));
 
 const ROWS: [Row; 13] = [

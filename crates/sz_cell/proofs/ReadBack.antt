@@ -6,7 +6,7 @@ use Rattle.std.proofs.lemmas.Option.{same_Some}
 use Rattle.sz_disk.specs.Disk.{Seen, IsLawful, IsSynced, ReadsPart}
 use Rattle.sz_disk.specs.Image.{part}
 use Rattle.sz_disk.proofs.Moments.{length-read}
-use Rattle.sz_cell.specs.Cell.{Kept, Means, IsReady, ReadMeans, WhereTold}
+use Rattle.sz_cell.specs.Cell.{Kept, Means, IsReady, ReadMeans, WhereReadsTold}
 use Rattle.sz_cell.specs.Header.{HeaderRead, Judges, slot_with}
 use Rattle.sz_cell.specs.Meaning.{Meaning, value, meaning, meaning_of}
 use Rattle.sz_cell.specs.Slot.{Slot, slot_of, slot_in, place, header_size, slot_size, region_size}
@@ -17,7 +17,7 @@ use Rattle.sz_cell.proofs.Slots.{header_front, payload_part, length-payload}
 use Rattle.sz_cell.proofs.States.{untold}
 use Rattle.sz_cell.proofs.Values.{value_found}
 
-pub where_told : (reads : Option (List ℕ)) (P : Type 0) → ((bytes : List ℕ) → reads ≡ Some bytes → P) → WhereTold reads P
+pub where_told : (reads : Option (List ℕ)) (P : Type 0) → ((bytes : List ℕ) → reads ≡ Some bytes → P) → WhereReadsTold reads P
 where_told None P told = tt
 where_told (Some bytes) P told = told bytes refl
 
@@ -142,7 +142,7 @@ attached old new lawful synced kept stands = by_reads new.reads refl
 -- the payload that a read gives
 pub payload_read : (disk : Seen) → IsLawful disk → (kept : Kept) (payload given : List ℕ) → IsReady disk kept payload
     → kept.at + region_size kept.capacity ≤ disk.size → length given ≡ kept.size
-    → ReadsPart disk.reads (place kept.at kept.capacity kept.slot + header_size) given → WhereTold disk.reads (given ≡ payload)
+    → ReadsPart disk.reads (place kept.at kept.capacity kept.slot + header_size) given → WhereReadsTold disk.reads (given ≡ payload)
 payload_read disk lawful kept payload given ready within long gives = where_told disk.reads (given ≡ payload) (λ bytes told.
     let found = value_found kept.at kept.capacity kept.slot bytes kept.sequence payload (ready.means bytes (lawful.reads_as_left bytes told)) in
     let slot = slot_in kept.at kept.capacity kept.slot bytes in

@@ -79,9 +79,9 @@ pub record IsFilled (disk : Seen) (pending : Pending) (payload next : List ℕ) 
   pub fits : pending.size ≤ pending.kept.capacity
 
 -- where the disk tells its bytes, this holds
-abbrev pub WhereTold : Option (List ℕ) → Type 0 → Type 0
-WhereTold None P = Unit {0}
-WhereTold (Some bytes) P = P
+abbrev pub WhereReadsTold : Option (List ℕ) → Type 0 → Type 0
+WhereReadsTold None P = Unit {0}
+WhereReadsTold (Some bytes) P = P
 
 -- where the disk tells its bytes, the region means this as the disk reads it
 abbrev pub ReadMeans : ℕ → ℕ → Option (List ℕ) → Meaning → Type 0

@@ -1,5 +1,5 @@
 -- What the bytes of a cell's region mean.
-use Rattle.std.specs.Prelude.{ℕ, List, Bool, ◌&&◌, ◌||◌, not, ◌==◌, nat_lt, if◌then◌else◌, Option, Some, None}
+use Rattle.std.specs.Prelude.{ℕ, List, Bool, ◌&&◌, ◌||◌, not, ◌==◌, nat_lt, if◌then◌else◌}
 use Rattle.sz_cell.specs.Slot.{Slot, is_open, slot_in}
 
 -- no value, a damage, or a value, with the number of its slot
@@ -29,8 +29,3 @@ meaning_of capacity first second =
 -- what an image's bytes mean in the region of this capacity from `at` on
 unfoldable pub meaning : ℕ → ℕ → List ℕ → Meaning
 meaning at capacity image = meaning_of capacity (slot_in at capacity 0 image) (slot_in at capacity 1 image)
-
--- what the bytes mean that a read gives; `none` where the disk tells nothing
-abbrev pub read_meaning : ℕ → ℕ → Option (List ℕ) → Meaning
-read_meaning at capacity None = none
-read_meaning at capacity (Some bytes) = meaning at capacity bytes

@@ -58,7 +58,7 @@ impl Header {
         self.gate == OPEN
     }
 
-    /// The header of a slot that is open alone.
+    // The header of a slot that is open alone.
     fn whole(self, capacity: u32) -> Result<Header, AttachFault>
         ensures { result ≡ (if nat_le self.size capacity
             then Ok self else Err (AttachFault.Damaged self.slot self.sequence self.size)) }

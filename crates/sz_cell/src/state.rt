@@ -2,7 +2,7 @@
 ghost use Rattle.std.specs.Prelude.{◌≡◌, ◌↔◌, List, [], ◌∷◌, ℕ, ◌+◌, ◌^◌, ◌<◌, ◌≤◌, length, IfOk, OnOk, is_err, Err};
 ghost use Rattle.sz_spec.specs.Cause.{HasCause};
 ghost use Rattle.sz_disk.specs.Disk.{IsQuiet};
-ghost use Rattle.sz_cell.specs.Cell.{Kept, Pending, next_of, spare_place, IsReady, IsCleared, IsFilled, WhereTold};
+ghost use Rattle.sz_cell.specs.Cell.{Kept, Pending, next_of, spare_place, IsReady, IsCleared, IsFilled, WhereReadsTold};
 ghost use Rattle.sz_cell.specs.Fault.{clear_failed};
 ghost use Rattle.sz_cell.specs.Slot.{region_size, open_gate, spelled};
 ghost use Rattle.sz_cell.specs.Transition.{ClearRan, FillRan, Replaced};
@@ -170,7 +170,7 @@ pub fn read<D: Disk>(ready: &Ready, disk: &mut D, into: &mut [u8]) -> Result<(),
     requires within { ready.now.at + region_size ready.now.capacity ≤ (D.seen disk.old).size }
     requires length { length into.old ≡ ready.now.size }
     ensures payload { (payload : List ℕ) → IsReady (D.seen disk.old) ready.now payload
-        → OnOk result (WhereTold (D.seen disk.old).reads (into.new ≡ payload)) }
+        → OnOk result (WhereReadsTold (D.seen disk.old).reads (into.new ≡ payload)) }
     ensures ready { (payload : List ℕ) → IsReady (D.seen disk.old) ready.now payload
         → IsReady (D.seen disk.new) ready.now payload }
     ensures quiet { IsQuiet (D.seen disk.old) (D.seen disk.new) }

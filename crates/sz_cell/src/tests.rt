@@ -12,10 +12,10 @@ const REGION: Region = Region {
     capacity: 48,
 };
 
-/// How many bytes a disk has: those of the region.
+// How many bytes a disk has: those of the region.
 const SIZE: u64 = 128;
 
-/// The values that are written one after another, with their lengths. At first there is none.
+// The values that are written one after another, with their lengths. At first there is none.
 const VALUES: [([u8; 3], usize); 4] = [
     ([0, 0, 0], 0),
     ([0xAB, 0, 0], 1),
@@ -23,8 +23,8 @@ const VALUES: [([u8; 3], usize); 4] = [
     ([1, 2, 3], 3),
 ];
 
-/// Makes a cell, attaches it and replaces its value twice, up to the first refusal. Says how many values were
-/// written.
+// Makes a cell, attaches it and replaces its value twice, up to the first refusal. Says how many values were
+// written.
 fn run(rt: &impl Abort, disk: &mut MemoryDisk) -> usize
     ensures { result ≤ 3 }
 {
@@ -44,7 +44,7 @@ fn run(rt: &impl Abort, disk: &mut MemoryDisk) -> usize
     3
 }
 
-/// The value of the cell, with its length.
+// The value of the cell, with its length.
 fn value_of(rt: &impl Abort, disk: &mut MemoryDisk) -> Result<([u8; 3], usize), AttachFault> {
     assert!(rt; disk.size() == SIZE);
     let mut bytes = [0; 3];
@@ -60,7 +60,7 @@ fn value_of(rt: &impl Abort, disk: &mut MemoryDisk) -> Result<([u8; 3], usize), 
     }
 }
 
-/// All bytes of the disk.
+// All bytes of the disk.
 fn bytes_of(rt: &impl Abort, disk: &mut MemoryDisk) -> Result<[u8; 128], Failed> {
     assert!(rt; disk.size() == SIZE);
     let mut bytes = [0; 128];
@@ -68,7 +68,7 @@ fn bytes_of(rt: &impl Abort, disk: &mut MemoryDisk) -> Result<[u8; 128], Failed>
     Ok(bytes)
 }
 
-/// How many calls of the disk `clear`, `fill` and `publish` make.
+// How many calls of the disk `clear`, `fill` and `publish` make.
 fn calls_of(rt: &impl Abort, disk: &mut MemoryDisk) -> Result<[u64; 3], Fail> {
     assert!(rt; disk.size() == SIZE);
     let ready = attach(disk, REGION)?;

@@ -36,7 +36,7 @@ pub fn integer_u32(item: &Item<'_>) -> Result<Option<u32>, DerFault>
     Ok(value_u32(octets))
 }
 
-/// The number that the octets of an INTEGER write, where it is one of 32 bits.
+// The number that the octets of an INTEGER write, where it is one of 32 bits.
 fn value_u32(octets: &[u8]) -> Option<u32>
     requires { IsInteger octets.now }
     ensures some { IfSome result (λ n. integer_of octets.now ≡ pos n) }
@@ -52,7 +52,7 @@ fn value_u32(octets: &[u8]) -> Option<u32>
     Some(number(magnitude) as u32)
 }
 
-/// The octets without a leading zero, which write the same number where it is not below 0.
+// The octets without a leading zero, which write the same number where it is not below 0.
 fn magnitude_of(octets: &[u8]) -> &[u8]
     requires { IsInteger octets.now }
     ensures number { number_of result.now ≡ number_of octets.now }
@@ -64,7 +64,7 @@ fn magnitude_of(octets: &[u8]) -> &[u8]
     }
 }
 
-/// The octets are the content of an INTEGER.
+// The octets are the content of an INTEGER.
 fn is_integer(content: &[u8]) -> bool
     ensures { IsTrue result ↔ IsInteger content.now }
 {

@@ -56,14 +56,14 @@ pub fn next(bytes: &[u8], place: usize) -> Result<Item<'_>, DerFault>
     }
 }
 
-/// The bytes from the place on.
+// The bytes from the place on.
 fn rest_from(bytes: &[u8], place: usize) -> &[u8]
     ensures { result.now ≡ drop place bytes.now }
 {
     bytes.get(place..).unwrap_or(&[])
 }
 
-/// How far an item goes.
+// How far an item goes.
 #[derive(Clone, Copy)]
 struct Extent {
     /// How many bytes stand before the content.
@@ -72,7 +72,7 @@ struct Extent {
     content: usize,
 }
 
-/// How far the item at the front of the bytes goes, which is not past their end.
+// How far the item at the front of the bytes goes, which is not past their end.
 #[tactic(auto, unfolding(crate::specs::Fault::fault_of))]
 fn extent_of(bytes: &[u8]) -> Result<Extent, DerKind>
     ensures no_fault { IfOk result (λ extent. fault_of bytes.now ≡ None) }
@@ -99,8 +99,8 @@ fn extent_of(bytes: &[u8]) -> Result<Extent, DerKind>
     Ok(extent)
 }
 
-/// How far the item at the front of the bytes says that it goes, in a length of so many octets after the
-/// first.
+// How far the item at the front of the bytes says that it goes, in a length of so many octets after the
+// first.
 #[tactic(auto, unfolding(crate::specs::Fault::fault_of))]
 fn long_form(bytes: &[u8], count: usize) -> Result<Extent, DerKind>
     requires two { 2 ≤ length bytes.now }
@@ -132,7 +132,7 @@ fn long_form(bytes: &[u8], count: usize) -> Result<Extent, DerKind>
     })
 }
 
-/// Fewer octets, or the short form, would do for the number that the octets write.
+// Fewer octets, or the short form, would do for the number that the octets write.
 fn is_padded(octets: &[u8]) -> bool
     requires { 0 < length octets.now }
     ensures { result ≡ is_padded octets.now }

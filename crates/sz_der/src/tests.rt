@@ -3,7 +3,7 @@
 use super::*;
 use std::test::Fail;
 
-/// An item as a caller builds it by hand, with the tag at place 3.
+// An item as a caller builds it by hand, with the tag at place 3.
 fn item(tag: u8, content: &[u8]) -> Item<'_> {
     Item {
         tag,
@@ -94,7 +94,7 @@ fn lengths_at_their_ends(rt: HostRuntime) -> Result<(), Fail> {
     Ok(())
 }
 
-/// INTEGERs by value, with their minimal octets.
+// INTEGERs by value, with their minimal octets.
 const NUMBERS: [(u32, &[u8]); 9] = [
     (0, b"\x00"),
     (127, b"\x7F"),
@@ -123,7 +123,7 @@ fn numbers_and_their_octets(rt: HostRuntime) -> Result<(), Fail> {
     Ok(())
 }
 
-/// A SEQUENCE at place 2 that holds a BOOLEAN, an INTEGER and an item that passes its end, and another item.
+// A SEQUENCE at place 2 that holds a BOOLEAN, an INTEGER and an item that passes its end, and another item.
 const HELD: &[u8] = b"\x05\x00\x30\x08\x01\x01\xFF\x02\x01\x2A\x04\x01\x00\x00";
 
 #[test]
@@ -204,7 +204,7 @@ const BIT_STRINGS: [(&[u8], Result<&[u8], DerFault>); 4] = [
     (b"", Err(AT_TAG)),
 ];
 
-/// Bit k of the standard has the value 2^k.
+// Bit k of the standard has the value 2^k.
 const NAMED_BITS: [(&[u8], Result<u16, DerFault>); 9] = [
     (b"\x00", Ok(0)),
     (b"\x07\x80", Ok(1)),

@@ -28,7 +28,7 @@ pub fn time(item: &Item<'_>) -> Result<i64, DerFault>
     seconds.ok_or(content_fault(item))
 }
 
-/// The second that the text of a UTCTime names.
+// The second that the text of a UTCTime names.
 fn utc_time(text: &[u8]) -> Option<i64>
     ensures found { IfSome result (λ seconds. (time : CivilTime)
         × IsUtcTime time text.now × IsTimeAt seconds time) }
@@ -39,7 +39,7 @@ fn utc_time(text: &[u8]) -> Option<i64>
     seconds_in_year(century + u16::from(year), rest)
 }
 
-/// The second that the text of a GeneralizedTime names.
+// The second that the text of a GeneralizedTime names.
 fn generalized_time(text: &[u8]) -> Option<i64>
     ensures found { IfSome result (λ seconds. (time : CivilTime)
         × IsGeneralizedTime time text.now × IsTimeAt seconds time) }
@@ -50,7 +50,7 @@ fn generalized_time(text: &[u8]) -> Option<i64>
     seconds_in_year(u16::from(century) * 100 + u16::from(year), rest)
 }
 
-/// The second of the year that the text `MMDDhhmmssZ` names.
+// The second of the year that the text `MMDDhhmmssZ` names.
 fn seconds_in_year(year: u16, text: &[u8]) -> Option<i64>
     requires { year ≤ 9999 }
     ensures found { IfSome result (λ seconds. (time : CivilTime) × (time.year ≡ pos year)
@@ -61,7 +61,7 @@ fn seconds_in_year(year: u16, text: &[u8]) -> Option<i64>
     date_in_year(year, text)?.to_unix_seconds()
 }
 
-/// The date and the time of day of the year that the text `MMDDhhmmssZ` writes; the calendar need not have it.
+// The date and the time of day of the year that the text `MMDDhhmmssZ` writes; the calendar need not have it.
 fn date_in_year(year: u16, text: &[u8]) -> Option<DateTime>
     requires { year ≤ 9999 }
     ensures year { IfSome result (λ date. date.year ≡ pos year) }
@@ -91,7 +91,7 @@ fn date_in_year(year: u16, text: &[u8]) -> Option<DateTime>
     })
 }
 
-/// The number that the first two bytes write as decimal digits, and the bytes after them.
+// The number that the first two bytes write as decimal digits, and the bytes after them.
 #[tactic(auto, unfolding(crate::specs::Time::two_digits))]
 fn two_digits(text: &[u8]) -> Option<(u8, &[u8])>
     ensures below { IfSome result (λ read. read.0 < 100) }

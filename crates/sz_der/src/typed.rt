@@ -68,7 +68,7 @@ pub fn named_bits(item: &Item<'_>) -> Result<u16, DerFault>
     }
 }
 
-/// The octets with so many unused bits are the content of a BIT STRING.
+// The octets with so many unused bits are the content of a BIT STRING.
 fn are_bits(unused: u8, octets: &[u8]) -> bool
     ensures { IsTrue result ↔ IsBits unused octets.now }
 {
@@ -78,14 +78,14 @@ fn are_bits(unused: u8, octets: &[u8]) -> bool
     }
 }
 
-/// The first 16 bits of the octets, bit k with the value 2^k.
+// The first 16 bits of the octets, bit k with the value 2^k.
 fn first_bits(octets: &[u8]) -> u16
     ensures { HasNamedBits octets.now result }
 {
     u16::from_be_bytes([octet_at(octets, 0), octet_at(octets, 1)]).reverse_bits()
 }
 
-/// The octet at the place, or 0 where there is none.
+// The octet at the place, or 0 where there is none.
 fn octet_at(octets: &[u8], place: usize) -> u8
     ensures { result ≡ slice_index octets.now place }
 {

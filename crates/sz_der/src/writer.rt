@@ -74,10 +74,10 @@ impl DerWriter {
     }
 }
 
-/// The most bytes that stand before a content.
+// The most bytes that stand before a content.
 const MAX_HEADER: usize = 6;
 
-/// Puts an item last. A refusal leaves the bytes as they were.
+// Puts an item last. A refusal leaves the bytes as they were.
 fn append_item(bytes: &mut Vec<u8>, tag: u8, content: &[u8]) -> Result<(), OutOfMemory>
     requires { tag % 32 ≢ 31 }
     ensures ok { OnOk result (AppendsItem bytes.old.items bytes.new.items tag content.now) }
@@ -92,7 +92,7 @@ fn append_item(bytes: &mut Vec<u8>, tag: u8, content: &[u8]) -> Result<(), OutOf
     Ok(())
 }
 
-/// Puts the octets of a length last, of which there are at most five.
+// Puts the octets of a length last, of which there are at most five.
 fn append_size(bytes: &mut Vec<u8>, size: u32)
     requires { vec_len bytes.old + 5 ≤ vec_capacity bytes.old }
     ensures size { AppendsSize bytes.old.items bytes.new.items size }

@@ -1,6 +1,6 @@
 -- A disk in memory follows the disk rule, whatever became of the call.
-use Rattle.std.proofs.Common.{◌≡◌, ◌⊎◌, ℕ, ◌+◌, ◌≤◌, Bool, true, false, List, length, Result, Ok, Err, is_err, OnOk, sym, subst, inl, inr, ⊎_elim}
-use Rattle.sz_disk.specs.Disk.{Seen, IsStill, IsQuiet, IsSynced, WroteIn}
+use Rattle.std.proofs.Common.{◌≡◌, ◌⊎◌, ℕ, ◌+◌, ◌≤◌, Bool, true, false, List, length, Result, Ok, Err, is_err, OnOk, OnErr, sym, subst, inl, inr, ⊎_elim}
+use Rattle.sz_disk.specs.Disk.{Seen, IsStill, IsQuiet, IsSynced, StaysUnsynced, WroteIn}
 use Rattle.sz_disk.specs.Event.{seen_after}
 use Rattle.sz_disk.specs.Memory.{Memory, seen_of, IsWritten, RecordsSync, ReadsBy, WritesBy, SyncsBy}
 use Rattle.sz_disk.proofs.Crashes.{tears-write, synced-push}
@@ -80,3 +80,19 @@ pub sync-ok : {T E : Type 0} (result : Result T E) (fate : Fate) (old new : Memo
     → OnOk result (IsSynced (seen_of old) (seen_of new))
 sync-ok (Ok v) fate old new h = sync-synced old new (synced-ok fate old new h)
 sync-ok (Err e) fate old new h = tt
+
+-- one that is refused changes nothing
+refused-same : (fate : Fate) (old new : Memory) → SyncsBy fate old new true → IsSame old new
+refused-same Runs old new h = record { bytes = h.bytes; events = h.events }
+refused-same AtCut old new h = record { bytes = h.1.bytes; events = h.1.events }
+refused-same Refused old new h = record { bytes = h.1.bytes; events = h.1.events }
+
+same-unsynced : (old new : Memory) → IsSame old new → StaysUnsynced (seen_of old) (seen_of new)
+same-unsynced old new same =
+    let P : Seen → Type 0 = λ seen. StaysUnsynced (seen_of old) seen in
+    seen-is P old.bytes old.events new same.bytes same.events (λ image left. left)
+
+pub sync-unsynced : {T E : Type 0} (result : Result T E) (fate : Fate) (old new : Memory) → SyncsBy fate old new (is_err result)
+    → OnErr result (StaysUnsynced (seen_of old) (seen_of new))
+sync-unsynced (Ok v) fate old new h = tt
+sync-unsynced (Err e) fate old new h = same-unsynced old new (refused-same fate old new h)

@@ -69,6 +69,10 @@ pub record IsStill (old new : Seen) : Type 0 where
   pub later : old.moment ≤ new.moment
   pub since : (t : ℕ) (image : List ℕ) → t ≤ old.moment → new.since t image ↔ old.since t image
 
+-- what a crash might have left, it may still leave
+abbrev pub StaysUnsynced : Seen → Seen → Type 0
+StaysUnsynced old new = (image : List ℕ) → old.leaves image → new.leaves image
+
 -- and a read gives what it gave before
 pub record IsQuiet (old new : Seen) : Type 0 where
   pub still : IsStill old new

@@ -8,7 +8,7 @@ ghost use Rattle.sz_disk.specs.Choice.{picked_byte, IsFirstFound, IsPicked, AreC
 use crate::event::{Event, undo};
 use std::alloc::{AllocError, Global};
 
-/// Up to how many writes the next unsynced byte is searched for in all of them.
+// Up to how many writes the next unsynced byte is searched for in all of them.
 const SEARCHED_WRITES: usize = 16;
 
 /// Leaves of each byte that one of these writes covers what a choice picks.
@@ -23,8 +23,8 @@ pub fn pick(alloc: Global, bytes: &mut [u8], pending: &[Event], choice: u64)
     }
 }
 
-/// The same, byte by byte: over a copy of the bytes of the last sync, or by search where there are few writes
-/// or no memory for the copy.
+// The same, byte by byte: over a copy of the bytes of the last sync, or by search where there are few writes
+// or no memory for the copy.
 fn pick_each(alloc: Global, bytes: &mut [u8], pending: &[Event], choice: u64)
     requires { EachFits (length bytes.old) pending.now }
     ensures { IsPicked choice pending.now (written_over pending.now) bytes.old bytes.new }
@@ -35,7 +35,7 @@ fn pick_each(alloc: Global, bytes: &mut [u8], pending: &[Event], choice: u64)
     }
 }
 
-/// The same over a copy of the bytes of the last sync. A refusal changes nothing.
+// The same over a copy of the bytes of the last sync. A refusal changes nothing.
 fn pick_over_copy(
     alloc: Global,
     bytes: &mut [u8],
@@ -59,7 +59,7 @@ fn pick_over_copy(
     Ok(())
 }
 
-/// The bytes of the last sync.
+// The bytes of the last sync.
 fn synced_bytes(alloc: Global, bytes: &[u8], pending: &[Event]) -> Result<Vec<u8>, AllocError>
     requires { EachFits (length bytes.now) pending.now }
     ensures long { IfOk result (λ old. length old.items ≡ length bytes.now) }
@@ -70,7 +70,7 @@ fn synced_bytes(alloc: Global, bytes: &[u8], pending: &[Event]) -> Result<Vec<u8
     Ok(old)
 }
 
-/// For each place below `size`, whether one of these writes covers it.
+// For each place below `size`, whether one of these writes covers it.
 fn covered_places(alloc: Global, size: usize, pending: &[Event]) -> Result<Vec<bool>, AllocError>
     requires { EachFits size pending.now }
     ensures { IfOk result (λ covered. AreCovered size pending.now covered.items) }
@@ -84,7 +84,7 @@ fn covered_places(alloc: Global, size: usize, pending: &[Event]) -> Result<Vec<b
     Ok(covered)
 }
 
-/// Marks the places of `at..end`.
+// Marks the places of `at..end`.
 fn mark(marks: &mut [bool], at: usize, end: usize)
     requires ordered { at ≤ end }
     requires within { end ≤ length marks.old }
@@ -95,7 +95,7 @@ fn mark(marks: &mut [bool], at: usize, end: usize)
     }
 }
 
-/// The same by search, which takes no memory.
+// The same by search, which takes no memory.
 fn pick_by_search(bytes: &mut [u8], pending: &[Event], choice: u64)
     ensures { IsPicked choice pending.now (written_over pending.now) bytes.old bytes.new }
 {
@@ -108,7 +108,7 @@ fn pick_by_search(bytes: &mut [u8], pending: &[Event], choice: u64)
     }
 }
 
-/// The first place of `from..end` that one of these writes covers, and the byte that stood there before them.
+// The first place of `from..end` that one of these writes covers, and the byte that stood there before them.
 fn next_covered(pending: &[Event], from: usize, end: usize) -> Option<(usize, u8)>
     ensures { IsFirstFound pending.now from end result }
 {
@@ -123,7 +123,7 @@ fn next_covered(pending: &[Event], from: usize, end: usize) -> Option<(usize, u8
     found
 }
 
-/// The first place of `from..end` that an event covers, and the byte that stood there before it.
+// The first place of `from..end` that an event covers, and the byte that stood there before it.
 fn covered_place(event: &Event, from: usize, end: usize) -> Option<(usize, u8)>
     ensures { IsFirstFound (event.now ∷ []) from end result }
 {
@@ -138,7 +138,7 @@ fn covered_place(event: &Event, from: usize, end: usize) -> Option<(usize, u8)>
     Some((place, *byte))
 }
 
-/// The byte that is left of the unsynced byte of this rank.
+// The byte that is left of the unsynced byte of this rank.
 fn picked_byte(choice: u64, rank: usize, old: u8, new: u8) -> u8
     ensures { result ≡ picked_byte choice rank old new }
 {

@@ -1,9 +1,9 @@
 //! The trait of a disk, with the disk rule.
-ghost use Rattle.std.specs.Prelude.{◌≡◌, ◌+◌, ◌≤◌, length, OnOk, is_err};
+ghost use Rattle.std.specs.Prelude.{◌≡◌, ◌+◌, ◌≤◌, length, OnOk, OnErr, is_err};
 ghost use Rattle.std.specs.Option.{option_map};
 ghost use Rattle.sz_spec.specs.Cause.{HasCause};
 ghost use Rattle.sz_disk.specs.Image.{patched};
-ghost use Rattle.sz_disk.specs.Disk.{Seen, IsLawful, ReadsPart, IsQuiet, IsSynced, IsStill, WroteIn};
+ghost use Rattle.sz_disk.specs.Disk.{Seen, IsLawful, ReadsPart, IsQuiet, IsSynced, IsStill, StaysUnsynced, WroteIn};
 
 use sz_base::Failed;
 
@@ -38,6 +38,7 @@ pub trait Disk {
     fn sync(&mut self) -> Result<(), Failed>
         ensures ok { OnOk result (IsSynced (seen self.old) (seen self.new)) }
         ensures still { IsStill (seen self.old) (seen self.new) }
+        ensures unsynced { OnErr result (StaysUnsynced (seen self.old) (seen self.new)) }
         ensures cause { HasCause (seen self.old).faults (seen self.new).faults (is_err result) };
 
     /// The laws of what is seen of it.

@@ -45,7 +45,7 @@ impl<D> Disks<D> {
         }
     }
 
-    /// The disk at this place.
+    // The disk at this place.
     fn disk_at(&mut self, place: usize) -> &mut D
         requires { place < length self.old }
         ensures* writes_back { sem 𝓛 (lends_at D.row self.entry place result) }
@@ -67,7 +67,7 @@ impl<D: Drop> Disks<D> {
     }
 }
 
-/// The place of the first entry of this name.
+// The place of the first entry of this name.
 fn place_of<D>(entries: &[(Text, D)], name: &[u8]) -> Option<usize>
     ensures { result ≡ position (has_name name.now) entries.now }
 {

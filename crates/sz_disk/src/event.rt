@@ -38,7 +38,7 @@ pub fn undo(bytes: &mut [u8], events: &[Event])
     }
 }
 
-/// Puts back what one event wrote over.
+// Puts back what one event wrote over.
 fn undo_one(bytes: &mut [u8], event: &Event)
     requires { end_of event.now ≤ length bytes.old }
     ensures { bytes.new ≡ undone_by event.now bytes.old }

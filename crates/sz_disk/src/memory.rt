@@ -1,9 +1,9 @@
 //! A disk in memory.
-ghost use Rattle.std.specs.Prelude.{◌≡◌, ◌+◌, ◌≤◌, length, IfOk, OnOk, is_err, not};
+ghost use Rattle.std.specs.Prelude.{◌≡◌, ◌+◌, ◌≤◌, length, IfOk, OnOk, OnErr, is_err, not};
 ghost use Rattle.std.specs.Option.{option_map};
 ghost use Rattle.sz_spec.specs.Cause.{HasCause};
 ghost use Rattle.sz_disk.specs.Image.{patched};
-ghost use Rattle.sz_disk.specs.Disk.{ReadsPart, IsQuiet, IsSynced, IsStill, WroteIn};
+ghost use Rattle.sz_disk.specs.Disk.{ReadsPart, IsQuiet, IsSynced, IsStill, StaysUnsynced, WroteIn};
 ghost use Rattle.sz_disk.specs.Event.{Leaves};
 ghost use Rattle.sz_disk.specs.Laws.{lawful_after};
 ghost use Rattle.sz_disk.specs.Plan.{with_failing, NamesCut};
@@ -84,7 +84,7 @@ impl MemoryDisk {
         disk
     }
 
-    /// Writes and records it, and says whether the record found memory.
+    // Writes and records it, and says whether the record found memory.
     fn put(&mut self, at: usize, bytes: &[u8]) -> bool
         requires { at + length bytes.now ≤ length (view self.old).bytes }
         ensures kept { IsKept at bytes.now (view self.old) (view self.new) result }
@@ -98,7 +98,7 @@ impl MemoryDisk {
         kept
     }
 
-    /// Records a sync, and says whether the record found memory.
+    // Records a sync, and says whether the record found memory.
     fn mark(&mut self) -> bool
         ensures kept { IsMarked (view self.old) (view self.new) result }
         ensures plan { (view self.new).plan ≡ (view self.old).plan }
@@ -111,7 +111,7 @@ impl MemoryDisk {
         kept
     }
 
-    /// Answers a call, and counts a refusal as a fault.
+    // Answers a call, and counts a refusal as a fault.
     fn answer(&mut self, done: bool) -> Result<(), Failed>
         ensures answer { is_err result ≡ not done }
         ensures counted { (view self.new).faults ≡ counted_faults (view self.old).faults (is_err result) }
@@ -126,7 +126,7 @@ impl MemoryDisk {
         Err(Failed)
     }
 
-    /// A read, by the call's fate.
+    // A read, by the call's fate.
     fn read_next(&mut self, at: usize, into: &mut [u8]) -> Result<(), Failed>
         requires { at + length into.old ≤ length (view self.old).bytes }
         ensures read { Reads at into.new (view self.old) (view self.new) (is_err result) }
@@ -143,7 +143,7 @@ impl MemoryDisk {
         self.answer(done)
     }
 
-    /// A write, by the call's fate.
+    // A write, by the call's fate.
     fn write_next(&mut self, at: usize, bytes: &[u8]) -> Result<(), Failed>
         requires { at + length bytes.now ≤ length (view self.old).bytes }
         ensures written { Writes at bytes.now (view self.old) (view self.new) (is_err result) }
@@ -161,7 +161,7 @@ impl MemoryDisk {
         self.answer(done)
     }
 
-    /// A sync, by the call's fate.
+    // A sync, by the call's fate.
     fn sync_next(&mut self) -> Result<(), Failed>
         ensures synced { Syncs (view self.old) (view self.new) (is_err result) }
         ensures counted { IsCounted (view self.old) (view self.new) (is_err result) }
@@ -215,6 +215,7 @@ impl Disk for MemoryDisk {
     fn sync(&mut self) -> Result<(), Failed>
         ensures ok { OnOk result (IsSynced (seen_of (view self.old)) (seen_of (view self.new))) }
         ensures still { IsStill (seen_of (view self.old)) (seen_of (view self.new)) }
+        ensures unsynced { OnErr result (StaysUnsynced (seen_of (view self.old)) (seen_of (view self.new))) }
         ensures cause { HasCause (view self.old).faults (view self.new).faults (is_err result) }
 
         // It fails exactly where the plan says so, or where its record finds no memory.

@@ -68,7 +68,7 @@ impl Plan {
         fate
     }
 
-    /// What becomes of the next call.
+    // What becomes of the next call.
     fn fate(&self) -> Fate
         ensures { HasFate self.now result }
     {
@@ -83,14 +83,14 @@ impl Plan {
         }
     }
 
-    /// The number of the next call.
+    // The number of the next call.
     fn next_call(&self) -> u64
         ensures { result ≡ next_call self.now }
     {
         self.calls.saturating_add(1)
     }
 
-    /// The cut fell at an earlier call.
+    // The cut fell at an earlier call.
     fn was_cut(&self) -> bool
         ensures { IsTrue result ↔ WasCut self.now }
     {
@@ -100,7 +100,7 @@ impl Plan {
         }
     }
 
-    /// The cut falls at the next call.
+    // The cut falls at the next call.
     fn falls_next(&self) -> bool
         ensures { IsTrue result ↔ FallsNext self.now }
     {
@@ -110,7 +110,7 @@ impl Plan {
         }
     }
 
-    /// The next call is one of those that are named.
+    // The next call is one of those that are named.
     fn is_named(&self) -> bool
         ensures { IsTrue result ↔ IsNamed self.now }
     {

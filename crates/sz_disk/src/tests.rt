@@ -6,7 +6,7 @@ use sz_base::{Bytes, Calls, Failed, Text};
 
 const WRITTEN: [u8; 8] = [101, 102, 103, 104, 105, 106, 107, 108];
 
-/// All eight bytes of a disk.
+// All eight bytes of a disk.
 fn bytes_of<D: Disk>(rt: &impl Abort, disk: &mut D) -> Result<[u8; 8], Failed> {
     assert!(rt; disk.size() == 8);
     let mut bytes = [0; 8];
@@ -14,13 +14,13 @@ fn bytes_of<D: Disk>(rt: &impl Abort, disk: &mut D) -> Result<[u8; 8], Failed> {
     Ok(bytes)
 }
 
-/// Writes to a disk of eight bytes.
+// Writes to a disk of eight bytes.
 fn write<D: Disk>(rt: &impl Abort, disk: &mut D, at: u64, bytes: &[u8]) -> Result<(), Failed> {
     assert!(rt; disk.size() == 8 && at <= 8 && bytes.len() <= 8 - at as usize);
     disk.write_at(at, bytes)
 }
 
-/// A list of call numbers.
+// A list of call numbers.
 fn calls(rt: &HostRuntime, numbers: &[u64]) -> Result<Calls, Fail> {
     Ok(Calls::from_vec(numbers.to_vec(rt.alloc())?))
 }
@@ -117,7 +117,7 @@ fn a_cut_stops_any_call(rt: HostRuntime) -> Result<(), Fail> {
 
 const MIB: u64 = 1 << 20;
 
-/// Three bytes from a place on.
+// Three bytes from a place on.
 fn three(rt: &impl Abort, disk: &mut MemoryDisk, at: u64) -> Result<[u8; 3], Failed> {
     assert!(rt; at <= disk.size() && 3 <= disk.size() - at);
     let mut bytes = [9; 3];
@@ -169,7 +169,7 @@ fn the_first_disk_of_a_name_is_found(rt: HostRuntime) -> Result<(), Fail> {
     Ok(())
 }
 
-/// A disk that tells nothing of what it holds, as a real file does.
+// A disk that tells nothing of what it holds, as a real file does.
 #[derive(Drop)]
 struct UntoldDisk {
     faults: u64,

@@ -5,7 +5,7 @@ use super::Room;
 use std::test::Fail;
 use sz_base::Failed;
 
-/// A room in memory, whose puts are refused while it is shut.
+// A room in memory, whose puts are refused while it is shut.
 #[derive(Drop)]
 struct Pad {
     space: u64,
@@ -59,7 +59,7 @@ impl Room for Pad {
     }
 }
 
-/// Puts two pieces, one behind the other.
+// Puts two pieces, one behind the other.
 fn put_both<R: Room>(room: &mut R, first: &[u8], second: &[u8]) -> Result<(), Failed>
     requires { (R.held room.old).used + length first.now + length second.now ≤ (R.held room.old).space }
     ensures both { OnOk result ((R.held room.new).used
