@@ -1,9 +1,12 @@
--- What contracts see of the folder and the sink in memory.
-use Rattle.std.specs.Prelude.{ℕ, List, refl}
+-- What contracts see of the objects in memory.
+use Rattle.std.specs.Prelude.{ℕ, Bool, List, refl}
 use Rattle.std.specs.Coded.{Coded, code_by, coded×, coded_ℕ, coded_list}
 use Rattle.std.specs.FinMap as map
 use Rattle.sz_io.specs.Folder.{FileMap}
+use Rattle.sz_base.specs.declared.seconds.Seconds.{Seconds}
 use Rattle.sz_io.specs.Plan.{Plan}
+use Rattle.sz_io.specs.Net.{Traffic}
+use Rattle.sz_io.specs.Listener.{Arrivals}
 
 -- the files, and which calls fail
 pub record FolderState : Type 0 where
@@ -12,6 +15,27 @@ pub record FolderState : Type 0 where
 
 -- the bytes that were written, and which calls fail
 pub record SinkState : Type 0 where
+  pub bytes : List ℕ
+  pub plan : Plan
+
+-- the traffic, and which calls fail
+pub record NetState : Type 0 where
+  pub traffic : Traffic
+  pub plan : Plan
+
+-- the arrivals, whether a connection stands, and which calls fail
+pub record ListenerState : Type 0 where
+  pub arrivals : Arrivals
+  pub stands : Bool
+  pub plan : Plan
+
+-- the answers still to come, and which calls fail
+pub record ClockState : Type 0 where
+  pub answers : List Seconds
+  pub plan : Plan
+
+-- the bytes still to come, and which calls fail
+pub record EntropyState : Type 0 where
   pub bytes : List ℕ
   pub plan : Plan
 

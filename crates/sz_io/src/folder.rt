@@ -1,3 +1,4 @@
+//! Files, each under a path.
 ghost use Rattle.std.specs.Prelude.{◌≡◌, ℕ, ◌<◌, ◌≤◌, List, length, take, drop, Option, OnOk, OnErr, IfOk, IfSome, is_err};
 ghost use Rattle.std.specs.Option.{option_map};
 ghost use Rattle.sz_base.specs.Fault.{put_failed};

@@ -1,3 +1,4 @@
+//! A folder in memory.
 ghost use Rattle.std.specs.Prelude.{◌≡◌, ◌↔◌, ◌-◌, ◌<◌, ◌≤◌, min, length, take, drop, Some, None, OnOk, OnErr, IfOk, IfSome, IfNone, IsErr, IsErrOf, is_err};
 ghost use Rattle.std.specs.List.{HoldsAt};
 ghost use Rattle.std.specs.Option.{option_copied, option_map};
@@ -7,6 +8,7 @@ ghost use Rattle.sz_io.specs.Folder.{bytes_at, readable_at, with_file, files_of,
 ghost use Rattle.sz_io.specs.Plan.{first_plan, FailsNext, after_call};
 
 use crate::Folder;
+use crate::rest::copy_from;
 use crate::plan::FaultPlan;
 use std::alloc::Global;
 use std::marker::Model;
@@ -142,17 +144,4 @@ fn put(
         None => pairs.push((path.copy(alloc)?, content))?,
     }
     Ok(())
-}
-
-// Copies the bytes from this place on into the front of `into`, as many as there are and it takes.
-fn copy_from(bytes: &[u8], at: u64, into: &mut [u8]) -> usize
-    ensures count { result ≡ min (length into.old) (length bytes.now - at) }
-    ensures copied { take result into.new ≡ take result (drop at bytes.now) }
-{
-    let Some(rest) = bytes.get(at as usize..) else {
-        return 0;
-    };
-    let count = rest.len().min(into.len());
-    into[..count].copy_from_slice(&rest[..count]);
-    count
 }

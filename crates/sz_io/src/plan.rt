@@ -1,4 +1,5 @@
-ghost use Rattle.std.specs.Prelude.{◌≡◌, [], ◌↔◌, IsTrue};
+//! Which calls of an object in memory fail.
+ghost use Rattle.std.specs.Prelude.{◌≡◌, [], ◌↔◌, ◌⊎◌, IsTrue, false};
 ghost use Rattle.sz_spec.specs.Cause.{HasCause};
 ghost use Rattle.sz_io.specs.Plan.{first_plan, FailsNext, after_call};
 
@@ -40,11 +41,46 @@ impl FaultPlan {
         ensures cause { HasCause self.old.faults self.new.faults result }
         ensures counted { self.new ≡ after_call self.old result }
     {
+        let named = self.is_next_named();
+        self.count(named);
+        named
+    }
+
+    /// The same for a call that fails too where it can't be answered.
+    pub fn next_fails_or(&mut self, unanswered: bool) -> bool
+        ensures fails { IsTrue result ↔ (FailsNext self.old ⊎ IsTrue unanswered) }
+        ensures cause { HasCause self.old.faults self.new.faults result }
+        ensures counted { self.new ≡ after_call self.old result }
+    {
+        let fails = self.is_next_named() || unanswered;
+        self.count(fails);
+        fails
+    }
+
+    /// Counts a call that doesn't fail, whether its number is named or not.
+    pub fn pass(&mut self)
+        ensures { self.new ≡ after_call self.old false }
+    {
+        self.count(false);
+    }
+
+    // The next call is one of those that fail.
+    fn is_next_named(&self) -> bool
+        ensures { IsTrue result ↔ FailsNext self.now }
+    {
+        self.fail
+            .as_slice()
+            .contains(&self.calls.saturating_add(1))
+    }
+
+    // Counts a call.
+    fn count(&mut self, fails: bool)
+        ensures cause { HasCause self.old.faults self.new.faults fails }
+        ensures counted { self.new ≡ after_call self.old fails }
+    {
         self.calls = self.calls.saturating_add(1);
-        let fails = self.fail.as_slice().contains(&self.calls);
         if fails {
             self.faults = self.faults.saturating_add(1);
         }
-        fails
     }
 }

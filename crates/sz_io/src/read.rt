@@ -1,3 +1,4 @@
+//! Reading a file whole.
 ghost use Rattle.std.specs.Prelude.{◌≡◌, ◌≢◌, ◌<◌, ◌≤◌, length, take, IfOk, IfSome, is_err};
 ghost use Rattle.sz_spec.specs.Cause.{HasCause};
 ghost use Rattle.sz_io.specs.Folder.{bytes_at, readable_at};

@@ -1,3 +1,4 @@
+//! The sink, to which a program's output goes.
 ghost use Rattle.std.specs.Prelude.{ℕ, List, Option, OnOk, OnErr};
 ghost use Rattle.sz_base.specs.Fault.{put_failed};
 ghost use Rattle.sz_spec.specs.Cause.{HasCause};

@@ -1,3 +1,4 @@
+//! What the forms in memory and the reading of files do with ample memory.
 ghost use Rattle.std.specs.Prelude.{None};
 
 use crate::{Files, Folder, Found, MemoryFolder, MemorySink, Sink, read_whole};
