@@ -1,13 +1,13 @@
 -- What a crash may leave of a disk in memory, one event more.
-use Rattle.std.proofs.Common.{◌≡◌, ℕ, ◌+◌, ◌-◌, ◌<◌, ◌≤◌, Bool, true, false, List, [], ◌∷◌, ◌++◌, length, take, drop, get_or, refl, sym, ap, subst, ◌∙◌, inl, inr, ⊎_elim, arith}
+use Rattle.std.proofs.Common.{◌≡◌, ◌⊎◌, ℕ, ◌+◌, ◌-◌, ◌<◌, ◌≤◌, Bool, true, false, List, [], ◌∷◌, ◌++◌, length, take, drop, get_or, refl, sym, ap, subst, ◌∙◌, inl, inr, ⊎_elim, Some, arith}
 use Rattle.std.proofs.lemmas.Bool.{cases_lt}
 use Rattle.std.proofs.lemmas.List.{take-append-le, drop-append-le, length_push, ext_get_or}
 use Rattle.std.proofs.lemmas.List.Sums.{fold_push}
-use Rattle.sz_disk.specs.Image.{part, patched, ChangedIn}
-use Rattle.sz_disk.specs.Parts.{ChangedIn-sym, ChangedIn-patched, get_or-outside, get_or-patched, get_or-part, length-part}
-use Rattle.sz_disk.specs.Disk.{TornIn, Elapses}
-use Rattle.sz_disk.specs.Event.{joined, unsynced, covers, is_covered, undone_by, undone, Leaves, LeftSince}
-use Rattle.sz_disk.specs.Past.{leaves-now}
+use Rattle.sz_disk.specs.Image.{part, patched, ChangedIn, TornFrom}
+use Rattle.sz_disk.proofs.Parts.{ChangedIn-sym, ChangedIn-patched, get_or-outside, get_or-patched, get_or-part, length-part, patched-part}
+use Rattle.sz_disk.specs.Event.{joined, unsynced, covers, is_covered, undone_by, undone, Leaves, LeftSince, seen_after}
+use Rattle.sz_disk.specs.Laws.{leaves-now, leaves-then}
+use Rattle.sz_disk.specs.Disk.{TornIn, IsSynced}
 use Rattle.sz_disk.proofs.Covered.{covered-none}
 use Rattle.sz_disk.proofs.Undone.{covers-range, covers-outside}
 use Rattle.sz_disk.specs.declared.event.Event.{Event}
@@ -36,26 +36,19 @@ then-more bytes more events event e n image le left =
     let Q : List Event → Type 0 = λ s. Leaves (undone (drop n events) bytes) s image in
     subst P (sym (past-same bytes more events event e n le)) (subst Q (sym (take-append-le n events (event ∷ []) le)) left)
 
--- time goes on by one event
-pub elapses-push : (bytes more : List ℕ) (events : List Event) (event : Event) → undone_by event more ≡ bytes → Elapses (length events) (length (events ++ event ∷ [])) (LeftSince bytes events) (LeftSince more (events ++ event ∷ [])) (Leaves more (events ++ event ∷ []))
-elapses-push bytes more events event e =
-    let long : length (events ++ event ∷ []) ≡ length events + 1 = length_push events event in
-    record {
-      later = omega arith;
-      nothing_else = λ t image le left. ⊎_elim
-          (λ lt. inl (left.0, left.1, omega arith, then-past bytes more events event e left.0 image (omega arith) left.3))
-          (λ ge. inr (leaves-now more (events ++ event ∷ []) left.0 image (omega arith) left.3))
-          (cases_lt left.0 (length events + 1));
-      keeps = λ t image le left. (left.0, left.1, omega (arith, left.2), then-more bytes more events event e left.0 image left.2 left.3);
-    }
+-- what was left before one event more was left still after it
+pub keeps-push : (bytes more : List ℕ) (events : List Event) (event : Event) → undone_by event more ≡ bytes → (t : ℕ) (image : List ℕ) → LeftSince bytes events t image → LeftSince more (events ++ event ∷ []) t image
+keeps-push bytes more events event e t image left =
+    (left.0, left.1, omega (arith, left.2, length_push events event), then-more bytes more events event e left.0 image left.2 left.3)
 
--- no time goes by
-pub elapses-still : (bytes : List ℕ) (events : List Event) → Elapses (length events) (length events) (LeftSince bytes events) (LeftSince bytes events) (Leaves bytes events)
-elapses-still bytes events = record {
-  later = omega arith;
-  nothing_else = λ t image le left. inl left;
-  keeps = λ t image le left. left;
-}
+-- what is left after it is left before it or now
+pub since-push : (bytes more : List ℕ) (events : List Event) (event : Event) → undone_by event more ≡ bytes → (t : ℕ) (image : List ℕ) → LeftSince more (events ++ event ∷ []) t image → LeftSince bytes events t image ⊎ Leaves more (events ++ event ∷ []) image
+since-push bytes more events event e t image left =
+    let long : length (events ++ event ∷ []) ≡ length events + 1 = length_push events event in
+    ⊎_elim
+    (λ lt. inl (left.0, left.1, omega arith, then-past bytes more events event e left.0 image (omega arith) left.3))
+    (λ ge. inr (leaves-now more (events ++ event ∷ []) left.0 image (omega arith) left.3))
+    (cases_lt left.0 (length events + 1))
 
 kept-write : (at : ℕ) (given bytes : List ℕ) (events : List Event) → at + length given ≤ length bytes → (image : List ℕ) → Leaves (patched at given bytes) (events ++ Wrote at (part bytes at (length given)) ∷ []) image → (k : ℕ) → is_covered (unsynced events) k ≡ false → (b : Bool) → covers k (Wrote at (part bytes at (length given))) ≡ b → get_or (patched at (part bytes at (length given)) image) k 0 ≡ get_or bytes k 0
 kept-write at given bytes events room image left k h true is =
@@ -83,7 +76,7 @@ kept-write at given bytes events room image left k h false is =
     ∙ get_or-outside at n bytes (patched at given bytes) changed k (⊎_elim (λ a. inl a) (λ b. inr (omega arith)) outside)
 
 -- A write, and after it any bytes in its range.
-pub torn-write : (at : ℕ) (given bytes : List ℕ) (events : List Event) → at + length given ≤ length bytes → TornIn at (length given) (Leaves bytes events) (Leaves (patched at given bytes) (events ++ Wrote at (part bytes at (length given)) ∷ []))
+pub torn-write : (at : ℕ) (given bytes : List ℕ) (events : List Event) → at + length given ≤ length bytes → (image : List ℕ) → Leaves (patched at given bytes) (events ++ Wrote at (part bytes at (length given)) ∷ []) image → TornFrom at (length given) (Leaves bytes events) image
 torn-write at given bytes events room image left =
     let n : ℕ = length given in
     let old : List ℕ = part bytes at n in
@@ -101,8 +94,50 @@ torn-write at given bytes events room image left =
       subst R long (ChangedIn-sym at (length old) image (patched at old image) torn),
     )
 
+-- time goes on by a write
+pub tears-write : (at : ℕ) (given bytes : List ℕ) (events : List Event) (faults faults' : ℕ) → at + length given ≤ length bytes → TornIn at (length given) (seen_after bytes events faults) (seen_after (patched at given bytes) (events ++ Wrote at (part bytes at (length given)) ∷ []) faults')
+tears-write at given bytes events faults faults' room =
+    let e = patched-part at given bytes room in
+    let event : Event = Wrote at (part bytes at (length given)) in
+    record {
+      size = (ChangedIn-patched at given bytes room).size;
+      told = refl;
+      crash = torn-write at given bytes events room;
+      later = omega (arith, length_push events event);
+      since = λ t image le left. ⊎_elim (λ past. inl past) (λ now. inr (torn-write at given bytes events room image now)) (since-push bytes (patched at given bytes) events event e t image left);
+      keeps = λ t image le left. keeps-push bytes (patched at given bytes) events event e t image left;
+    }
+
 -- A sync, and after it what a read gives.
 pub settled-sync : (bytes : List ℕ) (events : List Event) (image : List ℕ) → Leaves bytes (events ++ Synced ∷ []) image → image ≡ bytes
 settled-sync bytes events image left =
     let none : unsynced (events ++ Synced ∷ []) ≡ [] = fold_push joined [] events Synced in
     ext_get_or 0 image bytes left.size (λ i lt. left.kept i (ap (λ (s : List Event). is_covered s i) none))
+
+-- which is one of the images of before
+sync-crash : (bytes : List ℕ) (events : List Event) (image : List ℕ) → Leaves bytes (events ++ Synced ∷ []) image → Leaves bytes events image
+sync-crash bytes events image left =
+    let R : List ℕ → Type 0 = λ s. Leaves bytes events s in
+    subst R (sym (settled-sync bytes events image left)) (record { size = refl; kept = λ k h. refl })
+
+-- time goes on by a sync
+pub synced-push : (bytes : List ℕ) (events : List Event) (faults faults' : ℕ) → IsSynced (seen_after bytes events faults) (seen_after bytes (events ++ Synced ∷ []) faults')
+synced-push bytes events faults faults' = record {
+  quiet = record {
+    still = record {
+      size = refl;
+      told = refl;
+      crash = sync-crash bytes events;
+      later = omega (arith, length_push events Synced);
+      since = λ t image le. (
+        λ left. ⊎_elim
+            (λ past. past)
+            (λ now. (length events, le, omega arith, leaves-then bytes events (length events) image (omega arith) (sync-crash bytes events image now)))
+            (since-push bytes bytes events Synced refl t image left),
+        λ left. keeps-push bytes bytes events Synced refl t image left,
+      );
+    };
+    reads = refl;
+  };
+  settled = λ image left. ap Some (sym (settled-sync bytes events image left));
+}

@@ -2,6 +2,8 @@ pub mod Covered
 pub mod Crashes
 pub mod Fitting
 pub mod Honest
+pub mod Moments
 pub mod Named
+pub mod Parts
 pub mod Picks
 pub mod Undone

@@ -3,22 +3,14 @@ use Rattle.std.proofs.Common.{◌≡◌, ◌⊎◌, ℕ, ◌+◌, ◌-◌, ◌<�
 use Rattle.std.proofs.lemmas.Bool.{cases_lt}
 use Rattle.std.proofs.lemmas.Bool.Decides.{nat_tests}
 use Rattle.std.proofs.lemmas.List.Elements.{All-nil, All-head, All-tail, All-push}
-use Rattle.sz_disk.specs.Parts.{ChangedIn-patched, get_or-outside, get_or-patched}
+use Rattle.sz_disk.specs.Laws.{length-undone}
+use Rattle.sz_disk.proofs.Parts.{ChangedIn-patched, get_or-outside, get_or-patched}
 use Rattle.sz_disk.specs.Image.{patched}
 use Rattle.sz_disk.specs.Event.{joined, unsynced, covers, is_covered, undone, written_over}
 use Rattle.sz_disk.specs.Medium.{end_of, EachFits}
 use Rattle.sz_disk.specs.Choice.{rank, picked_byte, IsPicked}
 use Rattle.sz_disk.specs.declared.event.Event.{Event}
 use Rattle.sz_disk.specs.declared.event.Event.TheVariants.{Wrote, Synced}
-
--- the size stays
-pub length-undone : (events : List Event) (bytes : List ℕ) → EachFits (length bytes) events → length (undone events bytes) ≡ length bytes
-length-undone [] bytes fits = refl
-length-undone (Wrote at old ∷ es) bytes fits =
-    let rest = length-undone es bytes (All-tail (λ e. end_of e ≤ length bytes) (Wrote at old) es fits) in
-    let head = All-head (λ e. end_of e ≤ length bytes) (Wrote at old) es fits in
-    (ChangedIn-patched at old (undone es bytes) (omega arith)).size ∙ rest
-length-undone (Synced ∷ es) bytes fits = length-undone es bytes (All-tail (λ e. end_of e ≤ length bytes) Synced es fits)
 
 pub covers-range : (at k n : ℕ) → (leb at k && ltb k (at + n)) ≡ true → (at ≤ k) × (k < at + n)
 covers-range at k n h = (grind (arith, nat_tests), grind (arith, nat_tests))

@@ -1,11 +1,12 @@
 -- The record of a disk in memory: its writes and syncs in order, each write with the bytes that it wrote
 -- over.
-use Rattle.std.specs.Prelude.{◌≡◌, ℕ, ◌+◌, ◌-◌, ◌≤◌, Bool, false, ◌&&◌, if◌then◌else◌, List, [], ◌∷◌, ◌++◌, length, take, drop, fold, nat_le, nat_lt}
+use Rattle.std.specs.Prelude.{◌≡◌, ℕ, ◌+◌, ◌-◌, ◌≤◌, Bool, false, ◌&&◌, if◌then◌else◌, List, [], ◌∷◌, ◌++◌, length, take, drop, fold, nat_le, nat_lt, Some}
 use Rattle.std.specs.List.{list_any}
 use Rattle.std.proofs.Common.{get_or}
 use Rattle.sz_disk.specs.declared.event.Event.{Event}
 use Rattle.sz_disk.specs.declared.event.Event.TheVariants.{Wrote, Synced}
 use Rattle.sz_disk.specs.Image.{patched}
+use Rattle.sz_disk.specs.Disk.{Seen}
 
 -- a write joins what is unsynced, and a sync empties it
 abbrev pub joined : List Event → Event → List Event
@@ -45,6 +46,17 @@ pub record Leaves (bytes : List ℕ) (events : List Event) (image : List ℕ) : 
 abbrev pub LeftSince : List ℕ → List Event → ℕ → List ℕ → Type 0
 LeftSince bytes events t image =
     (n : ℕ) × (t ≤ n) × (n ≤ length events) × Leaves (undone (drop n events) bytes) (take n events) image
+
+-- what contracts see of a disk that has these bytes after these events
+abbrev pub seen_after : List ℕ → List Event → ℕ → Seen
+seen_after bytes events faults = record {
+  reads = Some bytes;
+  leaves = Leaves bytes events;
+  since = LeftSince bytes events;
+  moment = length events;
+  faults = faults;
+  size = length bytes;
+}
 
 -- the byte that stood at a place before the first of these events that wrote there
 abbrev pub written_over : List Event → ℕ → ℕ

@@ -3,10 +3,7 @@ pub mod Disk
 pub mod Disks
 pub mod Event
 pub mod Image
+pub mod Laws
 pub mod Medium
 pub mod Memory
-pub mod Moments
-pub mod Past
-pub mod Parts
 pub mod Plan
-pub mod Run

@@ -1,9 +1,9 @@
 -- What contracts see of a disk in memory, and what its calls do.
-use Rattle.std.specs.Prelude.{◌≡◌, ◌⊎◌, ℕ, Bool, true, false, List, [], ◌∷◌, ◌++◌, length, replicate, Option, Some, None, MatchBool}
-use Rattle.sz_spec.specs.Cause.{HasCause}
+use Rattle.std.specs.Prelude.{◌≡◌, ◌⊎◌, ℕ, ◌+◌, min, Bool, true, false, if◌then◌else◌, List, [], ◌∷◌, ◌++◌, length, replicate, None, MatchBool}
+use Rattle.sz_spec.specs.Cause.{last_count}
 use Rattle.sz_disk.specs.Image.{part, patched}
-use Rattle.sz_disk.specs.Disk.{Elapses}
-use Rattle.sz_disk.specs.Event.{Leaves, LeftSince}
+use Rattle.sz_disk.specs.Disk.{Seen}
+use Rattle.sz_disk.specs.Event.{seen_after}
 use Rattle.sz_disk.specs.Plan.{counted}
 use Rattle.sz_disk.specs.declared.event.Event.{Event}
 use Rattle.sz_disk.specs.declared.event.Event.TheVariants.{Wrote, Synced}
@@ -32,23 +32,9 @@ view disk = record {
   short = disk.short;
 }
 
--- what it tells of the disk rule: what a read gives, what a crash may leave, the moment, and what a crash
--- since an earlier moment might have left
-abbrev pub reads_of : Memory → Option (List ℕ)
-reads_of disk = Some disk.bytes
-
-abbrev pub images_of : Memory → List ℕ → Type 0
-images_of disk = Leaves disk.bytes disk.events
-
-abbrev pub moment_of : Memory → ℕ
-moment_of disk = length disk.events
-
-abbrev pub images_since : Memory → ℕ → List ℕ → Type 0
-images_since disk = LeftSince disk.bytes disk.events
-
--- time goes on from one state to a later one
-abbrev pub TimeGoes : Memory → Memory → Type 0
-TimeGoes old new = Elapses (moment_of old) (moment_of new) (images_since old) (images_since new) (images_of new)
+-- what contracts see of it as of any disk
+abbrev pub seen_of : Memory → Seen
+seen_of disk = seen_after disk.bytes disk.events disk.faults
 
 -- no call yet, and none that fails
 abbrev pub no_plan : Plan
@@ -66,10 +52,14 @@ with_plan disk plan = record disk { plan = plan }
 abbrev pub powered_up : Memory → List ℕ → Memory
 powered_up disk image = record { bytes = image; events = []; plan = no_plan; faults = disk.faults; short = disk.short }
 
--- a call was counted, and a refused one as a fault, too
+-- the count of faults after a call: one more where it was refused, up to the end of the type
+abbrev pub counted_faults : ℕ → Bool → ℕ
+counted_faults faults refused = if refused then min (faults + 1) last_count else faults
+
+-- a call was counted, and a refused one as one fault, too
 pub record IsCounted (old new : Memory) (refused : Bool) : Type 0 where
   pub plan : new.plan ≡ counted old.plan
-  pub cause : HasCause old.faults new.faults refused
+  pub faults : new.faults ≡ counted_faults old.faults refused
 
 -- nothing else has changed
 pub record IsUntouched (old new : Memory) : Type 0 where
@@ -94,14 +84,14 @@ abbrev pub IsKept : ℕ → List ℕ → Memory → Memory → Bool → Type 0
 IsKept at given old new kept = MatchBool kept (IsWritten at given old new) (IsShort old new)
 
 -- a sync was recorded
-pub record IsSynced (old new : Memory) : Type 0 where
+pub record RecordsSync (old new : Memory) : Type 0 where
   pub bytes : new.bytes ≡ old.bytes
   pub events : new.events ≡ old.events ++ Synced ∷ []
   pub short : new.short ≡ old.short
 
 -- the sync was recorded, or the record found no memory
 abbrev pub IsMarked : Memory → Memory → Bool → Type 0
-IsMarked old new kept = MatchBool kept (IsSynced old new) (IsShort old new)
+IsMarked old new kept = MatchBool kept (RecordsSync old new) (IsShort old new)
 
 -- A read, by the call's fate.
 abbrev pub Reads : Fate → ℕ → List ℕ → Memory → Memory → Bool → Type 0
@@ -117,6 +107,6 @@ Writes Refused at bytes old new refused = (refused ≡ true) × IsUntouched old 
 
 -- A sync, by the call's fate.
 abbrev pub Syncs : Fate → Memory → Memory → Bool → Type 0
-Syncs Runs old new refused = MatchBool refused (IsShort old new) (IsSynced old new)
+Syncs Runs old new refused = MatchBool refused (IsShort old new) (RecordsSync old new)
 Syncs AtCut old new refused = (refused ≡ true) × IsUntouched old new
 Syncs Refused old new refused = (refused ≡ true) × IsUntouched old new

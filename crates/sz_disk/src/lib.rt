@@ -9,17 +9,12 @@ mod choice;
 mod disk;
 mod disks;
 mod event;
-mod laws;
 mod medium;
 mod memory;
 mod plan;
 
 pub use disk::Disk;
 pub use disks::Disks;
-pub use laws::{
-    Fact, holds_at_end, holds_in_both, holds_in_call, keeps_outside, reads_what_is_left,
-    survives_calls,
-};
 pub use memory::MemoryDisk;
 
 #[cfg(test)]

@@ -1,4 +1,5 @@
-ghost use Rattle.std.specs.Prelude.{◌≡◌, ◌+◌, ◌≤◌, [], ◌∷◌, ◌++◌, length, replicate, IfOk, OnOk, OnErr};
+//! The bytes of a disk in memory, and the record of what was written and synced.
+ghost use Rattle.std.specs.Prelude.{◌≡◌, ◌+◌, ◌<◌, ◌≤◌, ◌^◌, [], ◌∷◌, ◌++◌, length, replicate, IfOk, OnOk, OnErr};
 ghost use Rattle.sz_disk.specs.Image.{part, patched};
 ghost use Rattle.sz_disk.specs.Event.{unsynced, undone};
 ghost use Rattle.sz_disk.specs.Choice.{IsPicked};
@@ -16,6 +17,7 @@ use sz_base::{Bytes, OutOfMemory};
 pub struct Medium {
     pub bytes: Vec<u8>,
     pub events: Vec<Event>,
+    ghost word: { length bytes.items < 2 ^ 64 },
     ghost fits: { EachFits (length bytes.items) events.items },
 }
 

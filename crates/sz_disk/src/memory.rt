@@ -1,14 +1,15 @@
-ghost use Rattle.std.specs.Prelude.{◌≡◌, ◌+◌, ◌≤◌, List, ℕ, length, Option, Some, IfOk, OnOk, is_some, is_err, true, not};
+//! A disk in memory.
+ghost use Rattle.std.specs.Prelude.{◌≡◌, ◌+◌, ◌≤◌, length, IfOk, OnOk, is_err, not};
 ghost use Rattle.std.specs.Option.{option_map};
+ghost use Rattle.std.proofs.Common.{get_or};
 ghost use Rattle.sz_spec.specs.Cause.{HasCause};
 ghost use Rattle.sz_disk.specs.Image.{patched};
-ghost use Rattle.sz_disk.specs.Disk.{ReadsPart, ReadsChangedIn, NothingNew, TornIn, IsSettled};
+ghost use Rattle.sz_disk.specs.Disk.{ReadsPart, IsQuiet, IsSynced, IsStill, WroteIn};
 ghost use Rattle.sz_disk.specs.Event.{Leaves, unsynced, undone};
-ghost use Rattle.sz_disk.specs.Past.{reads-left, since-now, now-since};
-ghost use Rattle.sz_disk.specs.Plan.{fate_of, counted, choice_of, with_failing, with_cut};
+ghost use Rattle.sz_disk.specs.Laws.{lawful_after};
+ghost use Rattle.sz_disk.specs.Plan.{fate_of, choice_of, with_failing, with_cut};
 ghost use Rattle.sz_disk.specs.Choice.{IsPicked};
-ghost use Rattle.sz_disk.specs.Memory.{view, reads_of, images_of, moment_of, images_since, TimeGoes, blank, powered_up, with_plan, IsCounted, Reads, Writes, Syncs, IsKept, IsMarked, IsUntouched};
-ghost use Rattle.std.proofs.Common.{get_or, refl};
+ghost use Rattle.sz_disk.specs.Memory.{view, seen_of, blank, powered_up, with_plan, counted_faults, IsCounted, Reads, Writes, Syncs, IsKept, IsMarked, IsUntouched};
 
 use crate::disk::Disk;
 use crate::medium::Medium;
@@ -116,7 +117,8 @@ impl MemoryDisk {
     /// Answers a call, and counts a refusal as a fault.
     fn answer(&mut self, done: bool) -> Result<(), Failed>
         ensures answer { is_err result ≡ not done }
-        ensures counted { HasCause (view self.old).faults (view self.new).faults (is_err result) }
+        ensures counted { (view self.new).faults ≡ counted_faults (view self.old).faults (is_err result) }
+        ensures cause { HasCause (view self.old).faults (view self.new).faults (is_err result) }
         ensures untouched { IsUntouched (view self.old) (view self.new) }
         ensures plan { (view self.new).plan ≡ (view self.old).plan }
     {
@@ -133,6 +135,7 @@ impl MemoryDisk {
         ensures read { Reads (fate_of (view self.old).plan) at into.new
             (view self.old) (view self.new) (is_err result) }
         ensures counted { IsCounted (view self.old) (view self.new) (is_err result) }
+        ensures cause { HasCause (view self.old).faults (view self.new).faults (is_err result) }
     {
         let done = match self.plan.count() {
             Fate::Runs => {
@@ -150,6 +153,7 @@ impl MemoryDisk {
         ensures written { Writes (fate_of (view self.old).plan) at bytes.now
             (view self.old) (view self.new) (is_err result) }
         ensures counted { IsCounted (view self.old) (view self.new) (is_err result) }
+        ensures cause { HasCause (view self.old).faults (view self.new).faults (is_err result) }
     {
         let done = match self.plan.count() {
             Fate::Runs => self.put(at, bytes),
@@ -167,6 +171,7 @@ impl MemoryDisk {
         ensures synced { Syncs (fate_of (view self.old).plan)
             (view self.old) (view self.new) (is_err result) }
         ensures counted { IsCounted (view self.old) (view self.new) (is_err result) }
+        ensures cause { HasCause (view self.old).faults (view self.new).faults (is_err result) }
     {
         let done = match self.plan.count() {
             Fate::Runs => self.mark(),
@@ -177,30 +182,10 @@ impl MemoryDisk {
 }
 
 impl Disk for MemoryDisk {
-    ghost reads = { λ disk. reads_of (view disk) };
+    ghost seen = { λ disk. seen_of (view disk) };
 
-    ghost may_leave = { λ disk. images_of (view disk) };
-
-    ghost moment = { λ disk. moment_of (view disk) };
-
-    ghost left_since = { λ disk. images_since (view disk) };
-
-    ghost faults = { λ disk. (view disk).faults };
-
-    ghost size_of = { λ disk. length (view disk).bytes };
-
-    ghost reads_as_left = { λ disk bytes is.
-        reads-left (view disk).bytes (view disk).events bytes is };
-
-    ghost tells_reads = { λ disk image left. ((view disk).bytes, refl) };
-
-    ghost sized = { λ disk image left. left.size };
-
-    ghost counts_now = { λ disk t image le left.
-        since-now (view disk).bytes (view disk).events t image le left };
-
-    ghost only_now = { λ disk image left.
-        now-since (view disk).bytes (view disk).events image left };
+    ghost lawful = { λ disk. lawful_after (view disk).bytes (view disk).events (view disk).faults
+        disk.medium.word disk.medium.fits };
 
     fn size(&self) -> u64 {
         self.medium.bytes.len() as u64
@@ -208,53 +193,42 @@ impl Disk for MemoryDisk {
 
     fn read(&mut self, at: u64, into: &mut [u8]) -> Result<(), Failed>
         requires { at + length into.old ≤ length (view self.old).bytes }
-        ensures bytes { OnOk result (ReadsPart (reads_of (view self.old)) at into.new) }
-        ensures seen { reads_of (view self.new) ≡ reads_of (view self.old) }
-        ensures crash { NothingNew (images_of (view self.old)) (images_of (view self.new)) }
-        ensures time { TimeGoes (view self.old) (view self.new) }
-        ensures size { length (view self.new).bytes ≡ length (view self.old).bytes }
+        ensures bytes { OnOk result (ReadsPart (seen_of (view self.old)).reads at into.new) }
+        ensures quiet { IsQuiet (seen_of (view self.old)) (seen_of (view self.new)) }
         ensures cause { HasCause (view self.old).faults (view self.new).faults (is_err result) }
 
         // It fails exactly where the plan says so.
         ensures exact { Reads (fate_of (view self.old).plan) at into.new
             (view self.old) (view self.new) (is_err result) }
-        ensures plan { (view self.new).plan ≡ counted (view self.old).plan }
+        ensures counted { IsCounted (view self.old) (view self.new) (is_err result) }
     {
         self.read_next(at as usize, into)
     }
 
     fn write_at(&mut self, at: u64, bytes: &[u8]) -> Result<(), Failed>
         requires { at + length bytes.now ≤ length (view self.old).bytes }
-        ensures written { OnOk result (reads_of (view self.new)
-            ≡ option_map (patched at bytes.now) (reads_of (view self.old))) }
-        ensures seen { ReadsChangedIn at (length bytes.now)
-            (reads_of (view self.old)) (reads_of (view self.new)) }
-        ensures crash { TornIn at (length bytes.now) (images_of (view self.old)) (images_of (view self.new)) }
-        ensures time { TimeGoes (view self.old) (view self.new) }
-        ensures size { length (view self.new).bytes ≡ length (view self.old).bytes }
+        ensures written { OnOk result ((seen_of (view self.new)).reads
+            ≡ option_map (patched at bytes.now) (seen_of (view self.old)).reads) }
+        ensures wrote { WroteIn at (length bytes.now) (seen_of (view self.old)) (seen_of (view self.new)) }
         ensures cause { HasCause (view self.old).faults (view self.new).faults (is_err result) }
 
         // It fails exactly where the plan says so, or where its record finds no memory.
         ensures exact { Writes (fate_of (view self.old).plan) at bytes.now
             (view self.old) (view self.new) (is_err result) }
-        ensures plan { (view self.new).plan ≡ counted (view self.old).plan }
+        ensures counted { IsCounted (view self.old) (view self.new) (is_err result) }
     {
         self.write_next(at as usize, bytes)
     }
 
     fn sync(&mut self) -> Result<(), Failed>
-        ensures settled { OnOk result (IsSettled (reads_of (view self.new)) (images_of (view self.new))) }
-        ensures seen { OnOk result (reads_of (view self.new) ≡ reads_of (view self.old)) }
-        ensures told { is_some (reads_of (view self.new)) ≡ is_some (reads_of (view self.old)) }
-        ensures crash { NothingNew (images_of (view self.old)) (images_of (view self.new)) }
-        ensures time { TimeGoes (view self.old) (view self.new) }
-        ensures size { length (view self.new).bytes ≡ length (view self.old).bytes }
+        ensures ok { OnOk result (IsSynced (seen_of (view self.old)) (seen_of (view self.new))) }
+        ensures still { IsStill (seen_of (view self.old)) (seen_of (view self.new)) }
         ensures cause { HasCause (view self.old).faults (view self.new).faults (is_err result) }
 
         // It fails exactly where the plan says so, or where its record finds no memory.
         ensures exact { Syncs (fate_of (view self.old).plan)
             (view self.old) (view self.new) (is_err result) }
-        ensures plan { (view self.new).plan ≡ counted (view self.old).plan }
+        ensures counted { IsCounted (view self.old) (view self.new) (is_err result) }
     {
         self.sync_next()
     }

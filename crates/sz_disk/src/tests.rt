@@ -1,5 +1,5 @@
+//! Tests of the disk in memory, and of a disk that tells nothing.
 use super::*;
-use std::marker::Brand;
 use std::process::Abort;
 use std::test::Fail;
 use sz_base::{Bytes, Calls, Failed, Text};
@@ -148,16 +148,6 @@ fn the_first_disk_of_a_name_is_found(rt: HostRuntime) -> Result<(), Fail> {
     Ok(())
 }
 
-#[test]
-fn the_laws_hold_of_a_disk_in_memory() {
-    keeps_outside();
-    survives_calls::<MemoryDisk, Brand>();
-    reads_what_is_left::<MemoryDisk, Brand>();
-    holds_in_call::<MemoryDisk, Brand>();
-    holds_in_both::<MemoryDisk, Brand>();
-    holds_at_end::<MemoryDisk, Brand>();
-}
-
 /// A disk that tells nothing of what it holds, as a real file does.
 #[derive(Drop)]
 struct UntoldDisk {
@@ -165,29 +155,13 @@ struct UntoldDisk {
 }
 
 impl Disk for UntoldDisk {
-    ghost use Rattle.std.specs.Prelude.{None};
+    ghost use Rattle.std.proofs.Common.{lit<};
+    ghost use Rattle.sz_disk.specs.Disk.{untold};
+    ghost use Rattle.sz_disk.specs.Laws.{lawful_untold};
 
-    ghost reads = { λ _. None };
+    ghost seen = { λ disk. untold disk.faults 8 };
 
-    ghost may_leave = { λ _ _. ⊥ };
-
-    ghost moment = { λ _. 0 };
-
-    ghost left_since = { λ _ _ _. ⊥ };
-
-    ghost faults = { λ disk. disk.faults };
-
-    ghost size_of = { λ _. 8 };
-
-    ghost reads_as_left = { λ disk bytes is. Prim.cc };
-
-    ghost tells_reads = { λ disk image left. absurd left };
-
-    ghost sized = { λ disk image left. absurd left };
-
-    ghost counts_now = { λ disk t image le left. left };
-
-    ghost only_now = { λ disk image left. left };
+    ghost lawful = { λ disk. lawful_untold disk.faults 8 (lit< tt) };
 
     fn size(&self) -> u64 {
         8
