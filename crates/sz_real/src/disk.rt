@@ -66,6 +66,7 @@ where
 {
     ghost use Rattle.std.proofs.Common.{lit<};
     ghost use Rattle.sz_disk.specs.Laws.{lawful_untold};
+    ghost use Rattle.sz_real.specs.declared.disk.TheConstants.{FILE_DISK_SIZE};
 
     ghost seen = { λ disk. untold disk.faults FILE_DISK_SIZE };
 
