@@ -6,6 +6,7 @@ use std::alloc::Allocator;
 use std::cell::Cell;
 use std::fs::{Files, Metadata, OpenFile, OpenOptions};
 use std::io::{self, Empty, ErrorKind, Read, Seek, SeekFrom, Write};
+use std::net::{Net, SocketAddr, TcpListener, TcpStream};
 use std::path::PathBuf;
 use std::random::RandomSource;
 use std::rt::Clock;
@@ -235,5 +236,53 @@ impl Clock for Failing {
 impl RandomSource for Failing {
     fn fill_bytes(&self, _into: &mut [u8]) -> io::Result<()> {
         Err(unsupported())
+    }
+}
+
+/// The host's network, with a clock that goes some seconds forward each time that it is asked.
+#[derive(Drop)]
+pub(super) struct Skipping<'a> {
+    host: &'a HostRuntime,
+    seconds: u64,
+    now: Cell<u64>,
+}
+
+impl<'a> Skipping<'a> {
+    pub(super) fn create(host: &'a HostRuntime, seconds: u64) -> Self {
+        Skipping {
+            host,
+            seconds,
+            now: Cell::new(0),
+        }
+    }
+}
+
+impl Clock for Skipping<'_> {
+    fn monotonic(&self) -> io::Result<Duration> {
+        let now = self.now.get().saturating_add(self.seconds);
+        self.now.set(now);
+        Ok(Duration::from_secs(now))
+    }
+
+    fn since_1970(&self) -> io::Result<Duration> {
+        Err(unsupported())
+    }
+}
+
+impl Net for Skipping<'_> {
+    type Stream = TcpStream;
+
+    type Listener = TcpListener;
+
+    fn bind(&self, address: SocketAddr) -> io::Result<TcpListener> {
+        self.host.bind(address)
+    }
+
+    fn connect(&self, address: SocketAddr) -> io::Result<TcpStream> {
+        self.host.connect(address)
+    }
+
+    fn connect_timeout(&self, address: SocketAddr, timeout: Duration) -> io::Result<TcpStream> {
+        self.host.connect_timeout(address, timeout)
     }
 }
