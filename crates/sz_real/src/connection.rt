@@ -1,9 +1,11 @@
 //! A connection whose waits end.
-ghost use Rattle.std.specs.Prelude.{◌≡◌, ◌+◌, ◌-◌, ◌*◌, ◌/◌, ◌^◌, ◌≤◌, ◌<◌, ◌↔◌, min, IfOk, IsErr, OnOk, OnErr};
+ghost use Rattle.std.specs.Prelude.{◌≡◌, ◌+◌, ◌-◌, ◌*◌, ◌/◌, ◌^◌, ◌≤◌, ◌<◌, ◌↔◌, ◌⊎◌, min, IfOk, IsErr, OnOk, OnErr};
 ghost use Rattle.std.specs.Duration.{as_nanos, max_nanos};
 ghost use Rattle.std.specs.Io.{ReadsAtMost};
 ghost use Rattle.std.specs.Io.KnownBytes.{Appends, ReadConsumes};
 ghost use Rattle.sz_real.specs.Known.{GrowsByFront};
+ghost use Rattle.sz_real.specs.Limits.{whole_nanos};
+ghost use Rattle.sz_real.specs.Stream.{ReceivedFrom};
 
 use crate::steps::{read_some, write_some};
 use std::io::{self, ErrorKind, Read, Write};
@@ -42,10 +44,9 @@ impl Limits {
         }
     }
 
-    // How long a connection may last that moved so many bytes. Four TiB count as any more.
+    // How long a connection may last that moved so many bytes. Past 4 TiB it gets no longer.
     fn whole_after(&self, moved: u64) -> Duration
-        ensures { moved / 1024 < 2 ^ 32 → as_nanos result ≡
-            min (as_nanos self.now.whole + as_nanos self.now.for_each_kib * (moved / 1024)) max_nanos }
+        ensures { as_nanos result ≡ whole_nanos self.now moved }
     {
         let kibs = u32::try_from(moved / KIB).unwrap_or(u32::MAX);
         self.whole.saturating_add(self.for_each_kib.saturating_mul(kibs))
@@ -77,8 +78,10 @@ impl<S: Read + Write + OpenStream> Connection<S> {
     /// One receive into the front of `into`: how many bytes there are, 0 at the end.
     pub(crate) fn receive<C: Clock>(&mut self, clock: &C, limits: &Limits, into: &mut [u8]) -> io::Result<usize>
         ensures within { ReadsAtMost result into.new }
+        ensures bytes { IfOk result (λ count. ReceivedFrom S.Read.remaining self.old self.new into.new count) }
     {
-        let wait = self.wait(clock, limits, clock.monotonic()?)?;
+        let now = clock.monotonic()?;
+        let wait = self.wait(limits, now, now)?;
         self.stream.set_read_timeout(Some(wait))?;
         let count = read_some(&mut self.stream, into)?;
         self.moved = self.moved.saturating_add(count as u64);
@@ -86,11 +89,16 @@ impl<S: Read + Write + OpenStream> Connection<S> {
     }
 
     /// Sends all the bytes. After an error some front of them was sent, none or all of them included.
-    pub(crate) fn send<C: Clock>(&mut self, clock: &C, limits: &Limits, bytes: &[u8]) -> io::Result<()> {
+    pub(crate) fn send<C: Clock>(&mut self, clock: &C, limits: &Limits, bytes: &[u8]) -> io::Result<()>
+        ensures taken { OnOk result
+            (Appends (S.Write.contents self.old.stream) (S.Write.contents self.new.stream) bytes.now) }
+        ensures front { OnErr result
+            (GrowsByFront (S.Write.contents self.old.stream) (S.Write.contents self.new.stream) bytes.now) }
+    {
         let start = clock.monotonic()?;
         let mut done = 0;
         while done < bytes.len() {
-            let wait = self.wait(clock, limits, start)?;
+            let wait = self.wait(limits, start, clock.monotonic()?)?;
             self.stream.set_write_timeout(Some(wait))?;
             let count = write_some(&mut self.stream, &bytes[done..])?;
             self.moved = self.moved.saturating_add(count as u64);
@@ -116,9 +124,15 @@ impl<S: Read + Write + OpenStream> Connection<S> {
         Ok(())
     }
 
-    // How long the next wait of a call may last that began at this time.
-    fn wait<C: Clock>(&self, clock: &C, limits: &Limits, start: Duration) -> io::Result<Duration> {
-        let now = clock.monotonic()?;
+    // How long the next wait of a call may last that began at this time, or an error where the call or the
+    // connection has lasted too long.
+    fn wait(&self, limits: &Limits, start: Duration, now: Duration) -> io::Result<Duration>
+        ensures ok { IfOk result (λ wait. as_nanos wait ≡
+            min (as_nanos limits.now.call - (as_nanos now - as_nanos start))
+            (whole_nanos limits.now self.now.moved - (as_nanos now - as_nanos self.now.begun))) }
+        ensures over { IsErr result ↔ ((as_nanos limits.now.call ≤ as_nanos now - as_nanos start)
+            ⊎ (whole_nanos limits.now self.now.moved ≤ as_nanos now - as_nanos self.now.begun)) }
+    {
         let call = time_left(limits.call, start, now)?;
         let whole = time_left(limits.whole_after(self.moved), self.begun, now)?;
         Ok(call.min(whole))

@@ -1,9 +1,10 @@
 //! The files of the operating system as a folder.
-ghost use Rattle.std.specs.Prelude.{◌≡◌, ◌≤◌, ◌↔◌, ℕ, List, [], length, None, Some, IsTrue, IfOk, OnOk, IfSome, is_err};
+ghost use Rattle.std.specs.Prelude.{◌≡◌, ◌≤◌, ◌↔◌, ℕ, List, [], length, None, Some, IsTrue, IfOk, OnOk, IfSome, IsSomeAnd, MatchResult, is_err};
 ghost use Rattle.std.specs.Option.{option_map};
 ghost use Rattle.sz_base.specs.Fault.{put_failed};
 ghost use Rattle.sz_spec.specs.Cause.{HasCause};
 ghost use Rattle.sz_real.specs.Place.{GivesPart};
+ghost use Rattle.sz_real.specs.Reading.{open_file, IsOpen, StaysWithFile};
 
 use crate::PositionedFile;
 use crate::fault::{counted, put_counted};
@@ -54,20 +55,22 @@ where
 
     /// Opens the file, which then stays open for the reads that follow.
     fn length(&mut self, path: &Text) -> Result<Option<u64>, Failed>
+        ensures opened { MatchResult result
+            (λ found. option_map (λ it. it.path) (open_file self.new) ≡ option_map (λ _. path.now) found)
+            (λ _. open_file self.new ≡ None) }
+        ensures empty { IfOk result (λ found. found ≡ Some 0 → IfSome (open_file self.new) (λ it.
+            IfSome (R.File.PositionedFile.held it.file) (λ bytes. bytes ≡ []))) }
         ensures cause { HasCause self.old.faults self.new.faults (is_err result) }
     {
-        self.reading = None;
-        let answer = open_to_read(self.runtime, self.alloc, path);
-        let Some((reading, length)) = counted(&mut self.faults, answer)? else {
-            return Ok(None);
-        };
-        self.reading = Some(reading);
-        Ok(Some(length))
+        let answer = self.open_reading(path);
+        counted(&mut self.faults, answer)
     }
 
     /// Reads from the file that is open under this path, and opens it where none is.
     fn read_at(&mut self, path: &Text, at: u64, into: &mut [u8]) -> Result<usize, Failed>
         ensures within { IfOk result (λ count. count ≤ length into.old) }
+        ensures opened { StaysWithFile R.File.PositionedFile.held (open_file self.old) (open_file self.new)
+            path.now at result into.new }
         ensures cause { HasCause self.old.faults self.new.faults (is_err result) }
     {
         let answer = self.read_open(path, at, into);
@@ -76,6 +79,7 @@ where
 
     /// The file and its name are on the medium at `Ok`. The file is written in its place: no other file is made.
     fn write(&mut self, path: &Text, bytes: &[u8]) -> Result<(), PutFault>
+        ensures closed { open_file self.new ≡ None }
         ensures cause { HasCause self.old.faults self.new.faults (put_failed result) }
     {
         self.reading = None;
@@ -88,13 +92,33 @@ impl<R: Files> RealFolder<'_, R>
 where
     R::File: PositionedFile,
 {
+    // Opens the file at the path anew, and answers its length, or `None` where there is no such file.
+    fn open_reading(&mut self, path: &Text) -> io::Result<Option<u64>>
+        ensures opened { MatchResult result
+            (λ found. option_map (λ it. it.path) self.new.reading ≡ option_map (λ _. path.now) found)
+            (λ _. self.new.reading ≡ None) }
+        ensures empty { IfOk result (λ found. found ≡ Some 0 → IfSome self.new.reading (λ it.
+            IfSome (R.File.PositionedFile.held it.file) (λ bytes. bytes ≡ []))) }
+        ensures faults { self.new.faults ≡ self.old.faults }
+    {
+        self.reading = None;
+        let Some((reading, length)) = open_to_read(self.runtime, self.alloc, path)? else {
+            return Ok(None);
+        };
+        self.reading = Some(reading);
+        Ok(Some(length))
+    }
+
     fn read_open(&mut self, path: &Text, at: u64, into: &mut [u8]) -> io::Result<usize>
         ensures within { IfOk result (λ count. count ≤ length into.old) }
+        ensures part { (bytes : List ℕ) → IsOpen R.File.PositionedFile.held self.old.reading path.now bytes
+            → IfOk result (λ count. GivesPart bytes at count into.new) }
+        ensures stays { (bytes : List ℕ) → IsOpen R.File.PositionedFile.held self.old.reading path.now bytes
+            → IsOpen R.File.PositionedFile.held self.new.reading path.now bytes }
         ensures faults { self.new.faults ≡ self.old.faults }
     {
         if !self.is_reading(path) {
-            self.reading = None;
-            self.reading = open_to_read(self.runtime, self.alloc, path)?.map(|opened| opened.0);
+            self.open_reading(path)?;
         }
         match &mut self.reading {
             Some(reading) => read_some_from(&mut reading.file, at, into),
@@ -102,7 +126,9 @@ where
         }
     }
 
-    fn is_reading(&self, path: &Text) -> bool {
+    fn is_reading(&self, path: &Text) -> bool
+        ensures { IsTrue result ↔ IsSomeAnd self.now.reading (λ it. it.path ≡ path.now) }
+    {
         match &self.reading {
             Some(reading) => reading.path.as_slice() == path.as_slice(),
             None => false,
@@ -118,6 +144,9 @@ fn open_to_read<R: Files>(
 ) -> io::Result<Option<(Reading<R::File>, u64)>>
 where
     R::File: PositionedFile,
+    ensures path { IfOk result (λ found. IfSome found (λ opened. opened.0.path ≡ path.now)) }
+    ensures empty { IfOk result (λ found. IfSome found (λ opened. opened.1 ≡ 0
+        → IfSome (R.File.PositionedFile.held opened.0.file) (λ bytes. bytes ≡ []))) }
 {
     let mut how = OpenOptions::new();
     how.read(true);

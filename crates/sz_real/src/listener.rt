@@ -1,5 +1,8 @@
 //! Connections from others over TCP.
-ghost use Rattle.std.specs.Prelude.{◌≡◌, ◌≤◌, length, None, IfOk, IsTrue, is_some, is_ok};
+ghost use Rattle.std.specs.Prelude.{◌≡◌, ◌≤◌, length, None, IfOk, OnOk, IsTrue, is_some, is_ok, is_err};
+ghost use Rattle.sz_base.specs.Fault.{put_failed};
+ghost use Rattle.sz_spec.specs.Cause.{HasCause};
+ghost use Rattle.sz_real.specs.Stream.{listener_connection, SentOver, ReceivedOver};
 
 use crate::address::host_text;
 use crate::connection::{Connection, Limits};
@@ -58,7 +61,13 @@ impl<R: net::Net + Clock> Listener for RealListener<'_, R> {
         counted(&mut self.faults, answer)
     }
 
-    fn receive(&mut self, into: &mut [u8]) -> Result<usize, Failed> {
+    fn receive(&mut self, into: &mut [u8]) -> Result<usize, Failed>
+        ensures within { IfOk result (λ count. count ≤ length into.old) }
+        ensures received { IfOk result (λ count. ReceivedOver R.Stream.Read.remaining
+            (listener_connection self.old) (listener_connection self.new) into.new count) }
+        ensures stands { IsTrue (is_some (listener_connection self.old)) → IsTrue (is_some (listener_connection self.new)) }
+        ensures cause { HasCause self.old.faults self.new.faults (is_err result) }
+    {
         let answer = match &mut self.connection {
             Some(connection) => connection.receive(self.runtime, &self.limits, into),
             None => Err(io::Error::from(ErrorKind::NotConnected)),
@@ -66,7 +75,12 @@ impl<R: net::Net + Clock> Listener for RealListener<'_, R> {
         counted(&mut self.faults, answer)
     }
 
-    fn send(&mut self, bytes: &[u8]) -> Result<(), PutFault> {
+    fn send(&mut self, bytes: &[u8]) -> Result<(), PutFault>
+        ensures sent { OnOk result (SentOver R.Stream.Write.contents
+            (listener_connection self.old) (listener_connection self.new) bytes.now) }
+        ensures stands { IsTrue (is_some (listener_connection self.old)) → IsTrue (is_some (listener_connection self.new)) }
+        ensures cause { HasCause self.old.faults self.new.faults (put_failed result) }
+    {
         let answer = match &mut self.connection {
             Some(connection) => connection.send(self.runtime, &self.limits, bytes),
             None => Err(io::Error::from(ErrorKind::NotConnected)),

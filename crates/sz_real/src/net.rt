@@ -1,5 +1,8 @@
 //! Connections to servers over TCP.
-ghost use Rattle.std.specs.Prelude.{◌≡◌, ◌≤◌, length, None, IfOk};
+ghost use Rattle.std.specs.Prelude.{◌≡◌, ◌≤◌, length, None, IfOk, OnOk, is_some, is_ok, is_err};
+ghost use Rattle.sz_base.specs.Fault.{put_failed};
+ghost use Rattle.sz_spec.specs.Cause.{HasCause};
+ghost use Rattle.sz_real.specs.Stream.{net_connection, SentOver, ReceivedOver};
 
 use crate::address::host_text;
 use crate::connection::{Connection, Limits};
@@ -44,13 +47,20 @@ impl<R: net::Net + Clock> Net for RealNet<'_, R> {
     ghost traffic = { λ _. None };
 
     /// The addresses are tried in the resolver's order.
-    fn connect(&mut self, target: &Target) -> Result<(), PutFault> {
+    fn connect(&mut self, target: &Target) -> Result<(), PutFault>
+        ensures stands { is_some (net_connection self.new) ≡ is_ok result }
+        ensures cause { HasCause self.old.faults self.new.faults (put_failed result) }
+    {
         self.connection = None;
         let answer = self.connect_to(target);
         put_counted(&mut self.faults, answer)
     }
 
-    fn send(&mut self, bytes: &[u8]) -> Result<(), PutFault> {
+    fn send(&mut self, bytes: &[u8]) -> Result<(), PutFault>
+        ensures sent { OnOk result
+            (SentOver R.Stream.Write.contents (net_connection self.old) (net_connection self.new) bytes.now) }
+        ensures cause { HasCause self.old.faults self.new.faults (put_failed result) }
+    {
         let answer = match &mut self.connection {
             Some(connection) => connection.send(self.runtime, &self.limits, bytes),
             None => Err(io::Error::from(ErrorKind::NotConnected)),
@@ -58,7 +68,12 @@ impl<R: net::Net + Clock> Net for RealNet<'_, R> {
         put_counted(&mut self.faults, answer)
     }
 
-    fn receive(&mut self, into: &mut [u8]) -> Result<usize, Failed> {
+    fn receive(&mut self, into: &mut [u8]) -> Result<usize, Failed>
+        ensures within { IfOk result (λ count. count ≤ length into.old) }
+        ensures received { IfOk result (λ count.
+            ReceivedOver R.Stream.Read.remaining (net_connection self.old) (net_connection self.new) into.new count) }
+        ensures cause { HasCause self.old.faults self.new.faults (is_err result) }
+    {
         let answer = match &mut self.connection {
             Some(connection) => connection.receive(self.runtime, &self.limits, into),
             None => Err(io::Error::from(ErrorKind::NotConnected)),
@@ -66,14 +81,19 @@ impl<R: net::Net + Clock> Net for RealNet<'_, R> {
         counted(&mut self.faults, answer)
     }
 
-    fn close(&mut self) {
+    fn close(&mut self)
+        ensures closed { net_connection self.new ≡ None }
+        ensures no_fault { self.new.faults ≡ self.old.faults }
+    {
         self.connection = None;
     }
 }
 
 impl<R: net::Net + Clock> RealNet<'_, R> {
     fn connect_to(&mut self, target: &Target) -> io::Result<()>
-        ensures { self.new.faults ≡ self.old.faults }
+        requires { self.old.connection ≡ None }
+        ensures stands { is_some self.new.connection ≡ is_ok result }
+        ensures faults { self.new.faults ≡ self.old.faults }
     {
         let mut last = io::Error::from(ErrorKind::NotFound);
         for address in (host_text(&target.host)?, target.port).to_socket_addrs(self.runtime)? {
