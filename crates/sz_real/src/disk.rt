@@ -1,7 +1,9 @@
 //! A disk in a file of the operating system.
-ghost use Rattle.std.specs.Prelude.{◌≡◌, ◌+◌, ◌≤◌, length, OnOk, is_err};
+ghost use Rattle.std.specs.Prelude.{◌≡◌, ◌+◌, ◌≤◌, length, Some, IsTrue, OnOk, IfSome, IsSomeAnd, is_some, is_err};
 ghost use Rattle.sz_disk.specs.Disk.{untold};
 ghost use Rattle.sz_spec.specs.Cause.{HasCause};
+ghost use Rattle.sz_real.specs.Open.{disk_file, IsRefused, StaysOpen};
+ghost use Rattle.sz_real.specs.Place.{IsPartAt, TakesPart};
 
 use crate::PositionedFile;
 use crate::fault::counted;
@@ -76,7 +78,15 @@ where
         FILE_DISK_SIZE
     }
 
-    fn read(&mut self, at: u64, into: &mut [u8]) -> Result<(), Failed> {
+    fn read(&mut self, at: u64, into: &mut [u8]) -> Result<(), Failed>
+        requires { at + length into.old ≤ FILE_DISK_SIZE }
+        ensures part { OnOk result (IsSomeAnd (disk_file self.new) (λ file.
+            IfSome (R.File.PositionedFile.held file) (λ bytes. IsPartAt bytes at into.new))) }
+        ensures unchanged { StaysOpen R.File.PositionedFile.held (λ before now. now ≡ before)
+            (disk_file self.old) (disk_file self.new) }
+        ensures refused { IsRefused self.old → IsRefused self.new }
+        ensures cause { HasCause self.old.faults self.new.faults (is_err result) }
+    {
         self.open_once();
         let answer = match &mut self.opening {
             Opening::Open(held) => fill_from(&mut held.file, at, into),
@@ -86,7 +96,14 @@ where
     }
 
     /// The file grows as far as it was written.
-    fn write_at(&mut self, at: u64, bytes: &[u8]) -> Result<(), Failed> {
+    fn write_at(&mut self, at: u64, bytes: &[u8]) -> Result<(), Failed>
+        requires { at + length bytes.now ≤ FILE_DISK_SIZE }
+        ensures written { OnOk result (StaysOpen R.File.PositionedFile.held
+            (λ before now. TakesPart before now at bytes.now) (disk_file self.old) (disk_file self.new)) }
+        ensures open { OnOk result (IsTrue (is_some (disk_file self.new))) }
+        ensures refused { IsRefused self.old → IsRefused self.new }
+        ensures cause { HasCause self.old.faults self.new.faults (is_err result) }
+    {
         self.open_once();
         let answer = match &mut self.opening {
             Opening::Open(held) => write_whole_to(&mut held.file, at, bytes),
@@ -96,7 +113,13 @@ where
     }
 
     /// The first one also has the file's name on the medium.
-    fn sync(&mut self) -> Result<(), Failed> {
+    fn sync(&mut self) -> Result<(), Failed>
+        ensures open { OnOk result (IsTrue (is_some (disk_file self.new))) }
+        ensures unchanged { StaysOpen R.File.PositionedFile.held (λ before now. now ≡ before)
+            (disk_file self.old) (disk_file self.new) }
+        ensures refused { IsRefused self.old → IsRefused self.new }
+        ensures cause { HasCause self.old.faults self.new.faults (is_err result) }
+    {
         self.open_once();
         let answer = match &mut self.opening {
             Opening::Open(held) => sync_held(self.runtime, self.alloc, &self.path, held),
@@ -111,7 +134,9 @@ where
     R::File: PositionedFile,
 {
     fn open_once(&mut self)
-        ensures { self.new.faults ≡ self.old.faults }
+        ensures open { IfSome (disk_file self.old) (λ file. disk_file self.new ≡ Some file) }
+        ensures refused { IsRefused self.old → IsRefused self.new }
+        ensures faults { self.new.faults ≡ self.old.faults }
     {
         if let Opening::NotTried = self.opening {
             self.opening = match open_alone(self.runtime, &self.path) {
@@ -144,7 +169,9 @@ fn sync_held<R: Files>(
     alloc: Global,
     path: &Text,
     held: &mut Held<R::File>,
-) -> io::Result<()> {
+) -> io::Result<()>
+    ensures { held.new.file ≡ held.old.file }
+{
     held.file.sync_all()?;
     if !held.is_named {
         sync_folder(runtime, alloc, path_text(path.as_slice())?)?;
