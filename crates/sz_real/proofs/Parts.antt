@@ -53,7 +53,7 @@ filled_up file into zeros at done rest room zero before ended k below =
           let split : k ≡ done + j = omega arith in
           let place : (at + done) + j ≡ at + k = omega arith in
           let past : get_or file (at + k) 0 ≡ 0 =
-              ap (λ i. get_or file i 0) (sym place) ∙ sym (get_or-drop (at + done) file j 0) ∙ ap (λ l. get_or l j 0) ended ∙ get_or_past [] j 0 (omega arith) in
+          ap (λ i. get_or file i 0) (sym place) ∙ sym (get_or-drop (at + done) file j 0) ∙ ap (λ l. get_or l j 0) ended ∙ get_or_past [] j 0 (omega arith) in
           ap (λ i. get_or (put_mid done rest into zeros) i 0) split ∙ index-put_mid_in done rest j into zeros room inside ∙ zero j ∙ sym past
     ]
 

@@ -1,5 +1,5 @@
 -- What goes over the stream of a connection that stands, where the stream tells it.
-use Rattle.std.specs.Prelude.{◌≡◌, ℕ, ◌<◌, List, length, take, Option, IsSomeAnd, Result, MatchResult}
+use Rattle.std.specs.Prelude.{◌≡◌, ℕ, ◌<◌, List, length, take, Option, IfSome, IsSomeAnd}
 use Rattle.std.specs.Io.KnownBytes.{Appends, Consumes, IsAtEnd}
 use Rattle.sz_real.specs.declared.connection.Connection.{Connection}
 use Rattle.sz_real.specs.declared.net.RealNet.{RealNet}
@@ -17,6 +17,11 @@ listener_connection listener = listener.connection
 abbrev pub SentOver : {S : Type 0} → (S → Option (List ℕ)) → Option (Connection S) → Option (Connection S) → List ℕ → Type 0
 SentOver contents before now bytes =
     IsSomeAnd before (λ old. IsSomeAnd now (λ new. Appends (contents old.stream) (contents new.stream) bytes))
+
+-- a connection that stood still stands, and its stream took some front of these bytes
+abbrev pub SentFrontOver : {S : Type 0} → (S → Option (List ℕ)) → Option (Connection S) → Option (Connection S) → List ℕ → Type 0
+SentFrontOver contents before now bytes =
+    IfSome before (λ old. IsSomeAnd now (λ new. GrowsByFront (contents old.stream) (contents new.stream) bytes))
 
 -- A connection stood and still stands, and its stream gave so many bytes, which are in the front of the buffer:
 -- none for some room only at its end.

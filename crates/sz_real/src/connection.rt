@@ -49,7 +49,8 @@ impl Limits {
         ensures { as_nanos result ≡ whole_nanos self.now moved }
     {
         let kibs = u32::try_from(moved / KIB).unwrap_or(u32::MAX);
-        self.whole.saturating_add(self.for_each_kib.saturating_mul(kibs))
+        self.whole
+            .saturating_add(self.for_each_kib.saturating_mul(kibs))
     }
 }
 
@@ -76,7 +77,12 @@ impl<S: Read + Write + OpenStream> Connection<S> {
     }
 
     /// One receive into the front of `into`: how many bytes there are, 0 at the end.
-    pub(crate) fn receive<C: Clock>(&mut self, clock: &C, limits: &Limits, into: &mut [u8]) -> io::Result<usize>
+    pub(crate) fn receive<C: Clock>(
+        &mut self,
+        clock: &C,
+        limits: &Limits,
+        into: &mut [u8],
+    ) -> io::Result<usize>
         ensures within { ReadsAtMost result into.new }
         ensures bytes { IfOk result (λ count. ReceivedFrom S.Read.remaining self.old self.new into.new count) }
     {
@@ -89,7 +95,12 @@ impl<S: Read + Write + OpenStream> Connection<S> {
     }
 
     /// Sends all the bytes. After an error some front of them was sent, none or all of them included.
-    pub(crate) fn send<C: Clock>(&mut self, clock: &C, limits: &Limits, bytes: &[u8]) -> io::Result<()>
+    pub(crate) fn send<C: Clock>(
+        &mut self,
+        clock: &C,
+        limits: &Limits,
+        bytes: &[u8],
+    ) -> io::Result<()>
         ensures taken { OnOk result
             (Appends (S.Write.contents self.old.stream) (S.Write.contents self.new.stream) bytes.now) }
         ensures front { OnErr result

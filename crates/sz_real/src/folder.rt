@@ -3,8 +3,7 @@ ghost use Rattle.std.specs.Prelude.{◌≡◌, ◌≤◌, ◌↔◌, ℕ, List, 
 ghost use Rattle.std.specs.Option.{option_map};
 ghost use Rattle.sz_base.specs.Fault.{put_failed};
 ghost use Rattle.sz_spec.specs.Cause.{HasCause};
-ghost use Rattle.sz_real.specs.Place.{GivesPart};
-ghost use Rattle.sz_real.specs.Reading.{open_file, IsOpen, StaysWithFile};
+ghost use Rattle.sz_real.specs.Reading.{open_file, IsOpen, GivesFromOpen};
 
 use crate::PositionedFile;
 use crate::fault::{counted, put_counted};
@@ -69,8 +68,9 @@ where
     /// Reads from the file that is open under this path, and opens it where none is.
     fn read_at(&mut self, path: &Text, at: u64, into: &mut [u8]) -> Result<usize, Failed>
         ensures within { IfOk result (λ count. count ≤ length into.old) }
-        ensures opened { StaysWithFile R.File.PositionedFile.held (open_file self.old) (open_file self.new)
-            path.now at result into.new }
+        ensures given { IfOk result (GivesFromOpen R.File.PositionedFile.held (open_file self.new) path.now at into.new) }
+        ensures stays { (bytes : List ℕ) → IsOpen R.File.PositionedFile.held (open_file self.old) path.now bytes
+            → IsOpen R.File.PositionedFile.held (open_file self.new) path.now bytes }
         ensures cause { HasCause self.old.faults self.new.faults (is_err result) }
     {
         let answer = self.read_open(path, at, into);
@@ -111,8 +111,7 @@ where
 
     fn read_open(&mut self, path: &Text, at: u64, into: &mut [u8]) -> io::Result<usize>
         ensures within { IfOk result (λ count. count ≤ length into.old) }
-        ensures part { (bytes : List ℕ) → IsOpen R.File.PositionedFile.held self.old.reading path.now bytes
-            → IfOk result (λ count. GivesPart bytes at count into.new) }
+        ensures given { IfOk result (GivesFromOpen R.File.PositionedFile.held self.new.reading path.now at into.new) }
         ensures stays { (bytes : List ℕ) → IsOpen R.File.PositionedFile.held self.old.reading path.now bytes
             → IsOpen R.File.PositionedFile.held self.new.reading path.now bytes }
         ensures faults { self.new.faults ≡ self.old.faults }
@@ -154,7 +153,9 @@ where
         return Ok(None);
     };
     require_true_length(&mut file, length)?;
-    let path = path.copy(alloc).map_err(|_| io::Error::from(ErrorKind::OutOfMemory))?;
+    let path = path
+        .copy(alloc)
+        .map_err(|_| io::Error::from(ErrorKind::OutOfMemory))?;
     Ok(Some((Reading { path, file }, length)))
 }
 

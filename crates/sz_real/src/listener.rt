@@ -1,8 +1,8 @@
 //! Connections from others over TCP.
-ghost use Rattle.std.specs.Prelude.{◌≡◌, ◌≤◌, length, None, IfOk, OnOk, IsTrue, is_some, is_ok, is_err};
+ghost use Rattle.std.specs.Prelude.{◌≡◌, ◌≤◌, length, None, IfOk, OnOk, OnErr, IsTrue, is_some, is_ok, is_err};
 ghost use Rattle.sz_base.specs.Fault.{put_failed};
 ghost use Rattle.sz_spec.specs.Cause.{HasCause};
-ghost use Rattle.sz_real.specs.Stream.{listener_connection, SentOver, ReceivedOver};
+ghost use Rattle.sz_real.specs.Stream.{listener_connection, SentOver, SentFrontOver, ReceivedOver};
 
 use crate::address::host_text;
 use crate::connection::{Connection, Limits};
@@ -77,6 +77,8 @@ impl<R: net::Net + Clock> Listener for RealListener<'_, R> {
 
     fn send(&mut self, bytes: &[u8]) -> Result<(), PutFault>
         ensures sent { OnOk result (SentOver R.Stream.Write.contents
+            (listener_connection self.old) (listener_connection self.new) bytes.now) }
+        ensures refused { OnErr result (SentFrontOver R.Stream.Write.contents
             (listener_connection self.old) (listener_connection self.new) bytes.now) }
         ensures stands { IsTrue (is_some (listener_connection self.old)) → IsTrue (is_some (listener_connection self.new)) }
         ensures cause { HasCause self.old.faults self.new.faults (put_failed result) }

@@ -1,8 +1,8 @@
 //! Connections to servers over TCP.
-ghost use Rattle.std.specs.Prelude.{◌≡◌, ◌≤◌, length, None, IfOk, OnOk, is_some, is_ok, is_err};
+ghost use Rattle.std.specs.Prelude.{◌≡◌, ◌≤◌, length, None, IfOk, OnOk, OnErr, is_some, is_ok, is_err};
 ghost use Rattle.sz_base.specs.Fault.{put_failed};
 ghost use Rattle.sz_spec.specs.Cause.{HasCause};
-ghost use Rattle.sz_real.specs.Stream.{net_connection, SentOver, ReceivedOver};
+ghost use Rattle.sz_real.specs.Stream.{net_connection, SentOver, SentFrontOver, ReceivedOver};
 
 use crate::address::host_text;
 use crate::connection::{Connection, Limits};
@@ -59,6 +59,8 @@ impl<R: net::Net + Clock> Net for RealNet<'_, R> {
     fn send(&mut self, bytes: &[u8]) -> Result<(), PutFault>
         ensures sent { OnOk result
             (SentOver R.Stream.Write.contents (net_connection self.old) (net_connection self.new) bytes.now) }
+        ensures refused { OnErr result (SentFrontOver R.Stream.Write.contents
+            (net_connection self.old) (net_connection self.new) bytes.now) }
         ensures cause { HasCause self.old.faults self.new.faults (put_failed result) }
     {
         let answer = match &mut self.connection {

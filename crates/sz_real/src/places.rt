@@ -7,7 +7,11 @@ use crate::PositionedFile;
 use std::io::{self, ErrorKind};
 
 /// One read of the bytes from place `at` on, tried again where a signal interrupted it.
-pub(crate) fn read_some_from<F: PositionedFile>(file: &mut F, at: u64, into: &mut [u8]) -> io::Result<usize>
+pub(crate) fn read_some_from<F: PositionedFile>(
+    file: &mut F,
+    at: u64,
+    into: &mut [u8],
+) -> io::Result<usize>
     ensures within { ReadsAtMost result into.new }
     ensures part { IfOk result (λ count. IfSome (F.held file.old) (λ bytes. GivesPart bytes at count into.new)) }
     ensures unchanged { F.held file.new ≡ F.held file.old }
@@ -40,7 +44,11 @@ fn write_some_to<F: PositionedFile>(file: &mut F, at: u64, bytes: &[u8]) -> io::
 }
 
 /// Writes all the bytes to the places from `at` on.
-pub(crate) fn write_whole_to<F: PositionedFile>(file: &mut F, at: u64, bytes: &[u8]) -> io::Result<()>
+pub(crate) fn write_whole_to<F: PositionedFile>(
+    file: &mut F,
+    at: u64,
+    bytes: &[u8],
+) -> io::Result<()>
     requires { at + length bytes.now < 2 ^ 64 }
     ensures ok { OnOk result (TakesPart (F.held file.old) (F.held file.new) at bytes.now) }
     ensures err { OnErr result ((n : ℕ) × TakesPart (F.held file.old) (F.held file.new) at (take n bytes.now)) }

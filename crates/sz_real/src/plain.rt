@@ -17,7 +17,11 @@ pub(crate) fn path_text(path: &[u8]) -> io::Result<&str> {
 /// Opens the plain file at a path, and answers its length, too, or `None` where nothing has the path. Anything
 /// else under that name (a folder, a pipe, a device) is an error. The name is looked at first, since to open a
 /// pipe may wait for ever, and what was opened is looked at again.
-pub(crate) fn open_plain<R: Files>(runtime: &R, how: &OpenOptions, path: &str) -> io::Result<Option<(R::File, u64)>> {
+pub(crate) fn open_plain<R: Files>(
+    runtime: &R,
+    how: &OpenOptions,
+    path: &str,
+) -> io::Result<Option<(R::File, u64)>> {
     if let Some(named) = found(fs::metadata(runtime, path))? {
         require_plain(&named)?;
     }

@@ -21,7 +21,8 @@ fn own_path(rt: &HostRuntime, name: &str) -> Result<String, Fail> {
     Ok(format!(in rt.alloc(); "/tmp/sz_real_{id}_{name}")?)
 }
 
-// Short and interrupted calls go on, an error midway is a fault, and so is a refused sync.
+// Short and interrupted calls go on, an error midway is a fault, and so is a refused sync. A file is opened once
+// for its reads, and once to be written, and then its folder to be synced.
 #[test]
 fn a_folder_goes_on_or_fails(rt: HostRuntime) -> Result<(), Fail> {
     let path = text(rt.alloc(), b"file")?;
@@ -41,6 +42,9 @@ fn a_folder_goes_on_or_fails(rt: HostRuntime) -> Result<(), Fail> {
         assert_eq!(rt; folder.read_at(&path, 3, &mut into).is_ok(), read);
         assert_eq!(rt; runtime.opened.get(), 1);
         assert_eq!(rt; folder.write(&path, b"12345678").is_ok(), written);
+        if written {
+            assert_eq!(rt; runtime.opened.get(), 3);
+        }
         if fault != Fault::Midway {
             assert_eq!(rt; runtime.bytes.get(), *b"12345678");
         }
@@ -48,6 +52,7 @@ fn a_folder_goes_on_or_fails(rt: HostRuntime) -> Result<(), Fail> {
     Ok(())
 }
 
+// The file is opened once, and its folder once more at the first sync.
 #[test]
 fn a_disk_goes_on_or_fails(rt: HostRuntime) -> Result<(), Fail> {
     for (fault, read, written, synced) in [
@@ -71,6 +76,24 @@ fn a_disk_goes_on_or_fails(rt: HostRuntime) -> Result<(), Fail> {
             assert_eq!(rt; runtime.bytes.get(), *b"c12345ts");
         }
         assert_eq!(rt; disk.sync().is_ok(), synced);
+        if synced {
+            assert_eq!(rt; runtime.opened.get(), 2);
+            disk.sync()?;
+            assert_eq!(rt; runtime.opened.get(), 2);
+        }
+    }
+    Ok(())
+}
+
+// The name is looked at before anything is opened, and what was opened is looked at, too.
+#[test]
+fn a_plain_file_is_looked_for_twice(rt: HostRuntime) -> Result<(), Fail> {
+    for (fault, opened) in [(Fault::FolderNamed, 0), (Fault::FolderOpened, 1)] {
+        let runtime = Scripted::create(fault);
+        let from = &runtime;
+        let mut folder = RealFolder::create(&from, rt.alloc());
+        assert!(rt; folder.length(&text(rt.alloc(), b"file")?).is_err());
+        assert_eq!(rt; runtime.opened.get(), opened);
     }
     Ok(())
 }

@@ -30,6 +30,9 @@ fn the_clock_and_the_random_bytes_are_the_runtimes(rt: HostRuntime) -> Result<()
     entropy.fill(&mut some)?;
     entropy.fill(&mut others)?;
     assert!(rt; some[..] != others[..]);
-    assert_eq!(rt; RealEntropy::create(&Failing, rt.alloc()).fill(&mut some), Err(Failed));
+    assert_eq!(rt;
+        RealEntropy::create(&Failing, rt.alloc()).fill(&mut some),
+        Err(Failed)
+    );
     Ok(())
 }

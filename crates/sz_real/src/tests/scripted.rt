@@ -22,6 +22,10 @@ pub(super) enum Fault {
     Midway,
     /// A sync fails.
     Sync,
+    /// What has the name is a folder.
+    FolderNamed,
+    /// What was opened is a folder.
+    FolderOpened,
 }
 
 #[derive(Drop)]
@@ -59,7 +63,9 @@ impl OneFile<'_> {
     {
         self.is_interrupted = !self.is_interrupted;
         match self.from.fault {
-            Fault::Interrupted if self.is_interrupted => Err(io::Error::from(ErrorKind::Interrupted)),
+            Fault::Interrupted if self.is_interrupted => Err(io::Error::from(
+                ErrorKind::Interrupted,
+            )),
             Fault::Midway if at >= 2 => Err(io::Error::from(ErrorKind::Other)),
             _ => Ok(wanted.min(2)),
         }
@@ -95,7 +101,11 @@ impl PositionedFile for OneFile<'_> {
 
 impl OpenFile for OneFile<'_> {
     fn metadata(&self) -> io::Result<Metadata> {
-        Ok(Metadata::of_file(8))
+        if self.from.fault == Fault::FolderOpened {
+            Ok(Metadata::of_dir())
+        } else {
+            Ok(Metadata::of_file(8))
+        }
     }
 
     fn set_len(&self, _size: u64) -> io::Result<()> {
@@ -156,7 +166,11 @@ impl<'a> Files for &'a Scripted {
     }
 
     fn metadata(&self, _path: &str) -> io::Result<Metadata> {
-        Ok(Metadata::of_file(8))
+        if self.fault == Fault::FolderNamed {
+            Ok(Metadata::of_dir())
+        } else {
+            Ok(Metadata::of_file(8))
+        }
     }
 
     fn symlink_metadata(&self, _path: &str) -> io::Result<Metadata> {

@@ -90,11 +90,11 @@ fn a_full_answer_ends(rt: HostRuntime) -> Result<(), Fail> {
     Ok(())
 }
 
-// A clock that goes 40 seconds forward at each look: the second call is past the connection's minute.
+// A clock that goes 31 seconds forward at each look: the second call is past the connection's minute.
 #[test]
 fn a_connection_ends_that_lasts_too_long(rt: HostRuntime) -> Result<(), Fail> {
     let (listener, target) = peer(&rt)?;
-    let runtime = Skipping::create(&rt, 25);
+    let runtime = Skipping::create(&rt, 31);
     let mut net = RealNet::create(&runtime, rt.alloc());
     net.connect(&target)?;
     let (mut peer, _) = listener.accept()?;
