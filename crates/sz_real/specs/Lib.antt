@@ -1,3 +1,4 @@
+pub mod Adapter
 pub mod Known
 pub mod Limits
 pub mod Open

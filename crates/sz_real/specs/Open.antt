@@ -21,3 +21,7 @@ IsRefused disk = disk.opening ≡ Refused
 -- a file that was open still is, and what it tells of its bytes before and now is related so
 abbrev pub StaysOpen : {F : Type 0} → (F → Option (List ℕ)) → (Option (List ℕ) → Option (List ℕ) → Type 0) → Option F → Option F → Type 0
 StaysOpen held R before now = IfSome before (λ old. IsSomeAnd now (λ new. R (held old) (held new)))
+
+-- no call was made yet
+abbrev pub IsNotTried : {R F D : Type 0} → FileDisk R F D → Type 0
+IsNotTried disk = disk.opening ≡ NotTried

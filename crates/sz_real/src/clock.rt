@@ -1,7 +1,7 @@
 //! The runtime's clock.
-ghost use Rattle.std.specs.Prelude.{◌≡◌, ◌<◌, ◌/◌, ◌^◌, ◌↔◌, pos, None, IfOk, IsOk, is_err};
+ghost use Rattle.std.specs.Prelude.{◌≡◌, ◌<◌, ◌/◌, ◌^◌, ◌↔◌, pos, None, IfOk, IsOk};
 ghost use Rattle.std.specs.Duration.{as_nanos};
-ghost use Rattle.sz_spec.specs.Cause.{HasCause};
+ghost use Rattle.sz_real.specs.Adapter.{clock_faults};
 
 use crate::fault::counted;
 use std::alloc::Global;
@@ -20,7 +20,9 @@ pub struct RealClock<'a, R> {
 
 impl<'a, R: rt::Clock> RealClock<'a, R> {
     /// Asks nothing, and takes no memory.
-    pub fn create(runtime: &'a R, _alloc: Global) -> Self {
+    pub fn create(runtime: &'a R, _alloc: Global) -> Self
+        ensures { clock_faults result ≡ 0 }
+    {
         RealClock { runtime, faults: 0 }
     }
 }

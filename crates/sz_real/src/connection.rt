@@ -4,7 +4,7 @@ ghost use Rattle.std.specs.Duration.{as_nanos, max_nanos};
 ghost use Rattle.std.specs.Io.{ReadsAtMost};
 ghost use Rattle.std.specs.Io.KnownBytes.{Appends, ReadConsumes};
 ghost use Rattle.sz_real.specs.Known.{GrowsByFront};
-ghost use Rattle.sz_real.specs.Limits.{whole_nanos};
+ghost use Rattle.sz_real.specs.Limits.{whole_nanos, IsUsual};
 ghost use Rattle.sz_real.specs.Stream.{ReceivedFrom};
 
 use crate::steps::{read_some, write_some};
@@ -34,7 +34,9 @@ pub struct Limits {
 impl Limits {
     /// The limits of a program: 10 s an address, 30 s a call, 60 s a connection and 1 s for each KiB, 2 s at
     /// its close.
-    pub fn usual() -> Self {
+    pub fn usual() -> Self
+        ensures { IsUsual result }
+    {
         Limits {
             connect: Duration::from_secs(10),
             call: Duration::from_secs(30),

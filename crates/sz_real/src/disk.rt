@@ -2,7 +2,8 @@
 ghost use Rattle.std.specs.Prelude.{◌≡◌, ◌+◌, ◌≤◌, length, Some, IsTrue, OnOk, IfSome, IsSomeAnd, is_some, is_err};
 ghost use Rattle.sz_disk.specs.Disk.{untold};
 ghost use Rattle.sz_spec.specs.Cause.{HasCause};
-ghost use Rattle.sz_real.specs.Open.{disk_file, IsRefused, StaysOpen};
+ghost use Rattle.sz_real.specs.Adapter.{disk_faults};
+ghost use Rattle.sz_real.specs.Open.{disk_file, IsNotTried, IsRefused, StaysOpen};
 ghost use Rattle.sz_real.specs.Place.{IsPartAt, TakesPart};
 
 use crate::PositionedFile;
@@ -51,7 +52,10 @@ pub struct FileDisk<'a, R: Files> {
 
 impl<'a, R: Files> FileDisk<'a, R> {
     /// The disk in the file at this path. Opens nothing, and takes no memory.
-    pub fn create(runtime: &'a R, alloc: Global, path: Text) -> Self {
+    pub fn create(runtime: &'a R, alloc: Global, path: Text) -> Self
+        ensures closed { IsNotTried result }
+        ensures no_fault { disk_faults result ≡ 0 }
+    {
         FileDisk {
             runtime,
             alloc,
@@ -85,7 +89,7 @@ where
         ensures unchanged { StaysOpen R.File.PositionedFile.held (λ before now. now ≡ before)
             (disk_file self.old) (disk_file self.new) }
         ensures refused { IsRefused self.old → IsRefused self.new }
-        ensures cause { HasCause self.old.faults self.new.faults (is_err result) }
+        ensures cause { HasCause (disk_faults self.old) (disk_faults self.new) (is_err result) }
     {
         self.open_once();
         let answer = match &mut self.opening {
@@ -102,7 +106,7 @@ where
             (λ before now. TakesPart before now at bytes.now) (disk_file self.old) (disk_file self.new)) }
         ensures open { OnOk result (IsTrue (is_some (disk_file self.new))) }
         ensures refused { IsRefused self.old → IsRefused self.new }
-        ensures cause { HasCause self.old.faults self.new.faults (is_err result) }
+        ensures cause { HasCause (disk_faults self.old) (disk_faults self.new) (is_err result) }
     {
         self.open_once();
         let answer = match &mut self.opening {
@@ -118,7 +122,7 @@ where
         ensures unchanged { StaysOpen R.File.PositionedFile.held (λ before now. now ≡ before)
             (disk_file self.old) (disk_file self.new) }
         ensures refused { IsRefused self.old → IsRefused self.new }
-        ensures cause { HasCause self.old.faults self.new.faults (is_err result) }
+        ensures cause { HasCause (disk_faults self.old) (disk_faults self.new) (is_err result) }
     {
         self.open_once();
         let answer = match &mut self.opening {

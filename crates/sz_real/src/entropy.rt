@@ -1,5 +1,6 @@
 //! The runtime's random bytes.
-ghost use Rattle.std.specs.Prelude.{None};
+ghost use Rattle.std.specs.Prelude.{◌≡◌, None};
+ghost use Rattle.sz_real.specs.Adapter.{entropy_faults};
 
 use crate::fault::counted;
 use std::alloc::Global;
@@ -16,7 +17,9 @@ pub struct RealEntropy<'a, R> {
 
 impl<'a, R: RandomSource> RealEntropy<'a, R> {
     /// Draws nothing, and takes no memory.
-    pub fn create(runtime: &'a R, _alloc: Global) -> Self {
+    pub fn create(runtime: &'a R, _alloc: Global) -> Self
+        ensures { entropy_faults result ≡ 0 }
+    {
         RealEntropy { runtime, faults: 0 }
     }
 }

@@ -3,6 +3,7 @@ ghost use Rattle.std.specs.Prelude.{◌≡◌, ◌≤◌, ◌↔◌, ℕ, List, 
 ghost use Rattle.std.specs.Option.{option_map};
 ghost use Rattle.sz_base.specs.Fault.{put_failed};
 ghost use Rattle.sz_spec.specs.Cause.{HasCause};
+ghost use Rattle.sz_real.specs.Adapter.{folder_faults};
 ghost use Rattle.sz_real.specs.Reading.{open_file, IsOpen, GivesFromOpen};
 
 use crate::PositionedFile;
@@ -34,7 +35,10 @@ pub struct RealFolder<'a, R: Files> {
 
 impl<'a, R: Files> RealFolder<'a, R> {
     /// Opens nothing, and takes no memory.
-    pub fn create(runtime: &'a R, alloc: Global) -> Self {
+    pub fn create(runtime: &'a R, alloc: Global) -> Self
+        ensures closed { open_file result ≡ None }
+        ensures no_fault { folder_faults result ≡ 0 }
+    {
         RealFolder {
             runtime,
             alloc,
@@ -59,7 +63,7 @@ where
             (λ _. open_file self.new ≡ None) }
         ensures empty { IfOk result (λ found. found ≡ Some 0 → IfSome (open_file self.new) (λ it.
             IfSome (R.File.PositionedFile.held it.file) (λ bytes. bytes ≡ []))) }
-        ensures cause { HasCause self.old.faults self.new.faults (is_err result) }
+        ensures cause { HasCause (folder_faults self.old) (folder_faults self.new) (is_err result) }
     {
         let answer = self.open_reading(path);
         counted(&mut self.faults, answer)
@@ -71,7 +75,7 @@ where
         ensures given { IfOk result (GivesFromOpen R.File.PositionedFile.held (open_file self.new) path.now at into.new) }
         ensures stays { (bytes : List ℕ) → IsOpen R.File.PositionedFile.held (open_file self.old) path.now bytes
             → IsOpen R.File.PositionedFile.held (open_file self.new) path.now bytes }
-        ensures cause { HasCause self.old.faults self.new.faults (is_err result) }
+        ensures cause { HasCause (folder_faults self.old) (folder_faults self.new) (is_err result) }
     {
         let answer = self.read_open(path, at, into);
         counted(&mut self.faults, answer)
@@ -80,7 +84,7 @@ where
     /// The file and its name are on the medium at `Ok`. The file is written in its place: no other file is made.
     fn write(&mut self, path: &Text, bytes: &[u8]) -> Result<(), PutFault>
         ensures closed { open_file self.new ≡ None }
-        ensures cause { HasCause self.old.faults self.new.faults (put_failed result) }
+        ensures cause { HasCause (folder_faults self.old) (folder_faults self.new) (put_failed result) }
     {
         self.reading = None;
         let answer = write_to_medium(self.runtime, self.alloc, path.as_slice(), bytes);

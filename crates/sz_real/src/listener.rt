@@ -2,6 +2,8 @@
 ghost use Rattle.std.specs.Prelude.{◌≡◌, ◌≤◌, length, None, IfOk, OnOk, OnErr, IsTrue, is_some, is_ok, is_err};
 ghost use Rattle.sz_base.specs.Fault.{put_failed};
 ghost use Rattle.sz_spec.specs.Cause.{HasCause};
+ghost use Rattle.sz_real.specs.Adapter.{listener_faults, listener_limits, listening};
+ghost use Rattle.sz_real.specs.Limits.{IsUsual};
 ghost use Rattle.sz_real.specs.Stream.{listener_connection, SentOver, SentFrontOver, ReceivedOver};
 
 use crate::address::host_text;
@@ -27,12 +29,20 @@ pub struct RealListener<'a, R: net::Net> {
 
 impl<'a, R: net::Net> RealListener<'a, R> {
     /// Listens at nothing, and takes no memory. Waits as long as is usual.
-    pub fn create(runtime: &'a R, alloc: Global) -> Self {
+    pub fn create(runtime: &'a R, alloc: Global) -> Self
+        ensures closed { (listening result ≡ None) × (listener_connection result ≡ None) }
+        ensures limits { IsUsual (listener_limits result) }
+        ensures no_fault { listener_faults result ≡ 0 }
+    {
         RealListener::within(runtime, alloc, Limits::usual())
     }
 
     /// The same with limits of one's own.
-    pub fn within(runtime: &'a R, _alloc: Global, limits: Limits) -> Self {
+    pub fn within(runtime: &'a R, _alloc: Global, limits: Limits) -> Self
+        ensures closed { (listening result ≡ None) × (listener_connection result ≡ None) }
+        ensures limits { listener_limits result ≡ limits }
+        ensures no_fault { listener_faults result ≡ 0 }
+    {
         RealListener {
             runtime,
             limits,
@@ -50,7 +60,11 @@ impl<R: net::Net + Clock> Listener for RealListener<'_, R> {
 
     ghost arrivals = { λ _. None };
 
-    fn listen(&mut self, target: &Target) -> Result<(), Failed> {
+    fn listen(&mut self, target: &Target) -> Result<(), Failed>
+        ensures listens { OnOk result (IsTrue (is_some (listening self.new))) }
+        ensures stands { is_some (listener_connection self.new) ≡ is_some (listener_connection self.old) }
+        ensures cause { HasCause (listener_faults self.old) (listener_faults self.new) (is_err result) }
+    {
         let answer = self.listen_at(target);
         counted(&mut self.faults, answer)
     }
@@ -66,7 +80,7 @@ impl<R: net::Net + Clock> Listener for RealListener<'_, R> {
         ensures received { IfOk result (λ count. ReceivedOver R.Stream.Read.remaining
             (listener_connection self.old) (listener_connection self.new) into.new count) }
         ensures stands { IsTrue (is_some (listener_connection self.old)) → IsTrue (is_some (listener_connection self.new)) }
-        ensures cause { HasCause self.old.faults self.new.faults (is_err result) }
+        ensures cause { HasCause (listener_faults self.old) (listener_faults self.new) (is_err result) }
     {
         let answer = match &mut self.connection {
             Some(connection) => connection.receive(self.runtime, &self.limits, into),
@@ -81,7 +95,7 @@ impl<R: net::Net + Clock> Listener for RealListener<'_, R> {
         ensures refused { OnErr result (SentFrontOver R.Stream.Write.contents
             (listener_connection self.old) (listener_connection self.new) bytes.now) }
         ensures stands { IsTrue (is_some (listener_connection self.old)) → IsTrue (is_some (listener_connection self.new)) }
-        ensures cause { HasCause self.old.faults self.new.faults (put_failed result) }
+        ensures cause { HasCause (listener_faults self.old) (listener_faults self.new) (put_failed result) }
     {
         let answer = match &mut self.connection {
             Some(connection) => connection.send(self.runtime, &self.limits, bytes),
@@ -99,6 +113,7 @@ impl<R: net::Net + Clock> Listener for RealListener<'_, R> {
 impl<R: net::Net + Clock> RealListener<'_, R> {
     fn listen_at(&mut self, target: &Target) -> io::Result<()>
         ensures faults { self.new.faults ≡ self.old.faults }
+        ensures listens { OnOk result (IsTrue (is_some self.new.listening)) }
         ensures connection { is_some self.new.connection ≡ is_some self.old.connection }
     {
         let listening = TcpListener::bind(self.runtime, (host_text(&target.host)?, target.port))?;

@@ -2,6 +2,8 @@
 ghost use Rattle.std.specs.Prelude.{◌≡◌, ◌≤◌, length, None, IfOk, OnOk, OnErr, is_some, is_ok, is_err};
 ghost use Rattle.sz_base.specs.Fault.{put_failed};
 ghost use Rattle.sz_spec.specs.Cause.{HasCause};
+ghost use Rattle.sz_real.specs.Adapter.{net_faults, net_limits};
+ghost use Rattle.sz_real.specs.Limits.{IsUsual};
 ghost use Rattle.sz_real.specs.Stream.{net_connection, SentOver, SentFrontOver, ReceivedOver};
 
 use crate::address::host_text;
@@ -26,12 +28,20 @@ pub struct RealNet<'a, R: net::Net> {
 
 impl<'a, R: net::Net> RealNet<'a, R> {
     /// Connects to nothing, and takes no memory. Waits as long as is usual.
-    pub fn create(runtime: &'a R, alloc: Global) -> Self {
+    pub fn create(runtime: &'a R, alloc: Global) -> Self
+        ensures closed { net_connection result ≡ None }
+        ensures limits { IsUsual (net_limits result) }
+        ensures no_fault { net_faults result ≡ 0 }
+    {
         RealNet::within(runtime, alloc, Limits::usual())
     }
 
     /// The same with limits of one's own.
-    pub fn within(runtime: &'a R, _alloc: Global, limits: Limits) -> Self {
+    pub fn within(runtime: &'a R, _alloc: Global, limits: Limits) -> Self
+        ensures closed { net_connection result ≡ None }
+        ensures limits { net_limits result ≡ limits }
+        ensures no_fault { net_faults result ≡ 0 }
+    {
         RealNet {
             runtime,
             limits,
@@ -49,7 +59,7 @@ impl<R: net::Net + Clock> Net for RealNet<'_, R> {
     /// The addresses are tried in the resolver's order.
     fn connect(&mut self, target: &Target) -> Result<(), PutFault>
         ensures stands { is_some (net_connection self.new) ≡ is_ok result }
-        ensures cause { HasCause self.old.faults self.new.faults (put_failed result) }
+        ensures cause { HasCause (net_faults self.old) (net_faults self.new) (put_failed result) }
     {
         self.connection = None;
         let answer = self.connect_to(target);
@@ -61,7 +71,7 @@ impl<R: net::Net + Clock> Net for RealNet<'_, R> {
             (SentOver R.Stream.Write.contents (net_connection self.old) (net_connection self.new) bytes.now) }
         ensures refused { OnErr result (SentFrontOver R.Stream.Write.contents
             (net_connection self.old) (net_connection self.new) bytes.now) }
-        ensures cause { HasCause self.old.faults self.new.faults (put_failed result) }
+        ensures cause { HasCause (net_faults self.old) (net_faults self.new) (put_failed result) }
     {
         let answer = match &mut self.connection {
             Some(connection) => connection.send(self.runtime, &self.limits, bytes),
@@ -74,7 +84,7 @@ impl<R: net::Net + Clock> Net for RealNet<'_, R> {
         ensures within { IfOk result (λ count. count ≤ length into.old) }
         ensures received { IfOk result (λ count.
             ReceivedOver R.Stream.Read.remaining (net_connection self.old) (net_connection self.new) into.new count) }
-        ensures cause { HasCause self.old.faults self.new.faults (is_err result) }
+        ensures cause { HasCause (net_faults self.old) (net_faults self.new) (is_err result) }
     {
         let answer = match &mut self.connection {
             Some(connection) => connection.receive(self.runtime, &self.limits, into),
@@ -85,7 +95,7 @@ impl<R: net::Net + Clock> Net for RealNet<'_, R> {
 
     fn close(&mut self)
         ensures closed { net_connection self.new ≡ None }
-        ensures no_fault { self.new.faults ≡ self.old.faults }
+        ensures no_fault { net_faults self.new ≡ net_faults self.old }
     {
         self.connection = None;
     }
