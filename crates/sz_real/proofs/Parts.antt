@@ -1,10 +1,10 @@
 -- Parts of a file that are read and written one after another.
-use Rattle.std.proofs.Common.{◌≡◌, ℕ, ◌+◌, ◌-◌, ◌≤◌, ◌<◌, ◌⊎◌, inl, inr, List, [], ◌++◌, length, length-append, take, drop, slice_index, get_or, Option, None, Some, sym, ◌∙◌, ap, subst, refl, arith, rules}
+use Rattle.std.proofs.Common.{◌≡◌, ℕ, ◌+◌, ◌-◌, ◌≤◌, ◌<◌, inl, inr, List, [], ◌++◌, length, length-append, take, drop, slice_index, get_or, Option, None, Some, sym, ◌∙◌, ap, subst, refl, arith, rules}
 use Rattle.std.proofs.Math.Seq.{take-add}
 use Rattle.std.proofs.lemmas.Bool.{cases_lt}
 use Rattle.std.proofs.lemmas.List.{places, take_rest, length-take-le, get_or-take, get_or-drop, get_or_past, get_or_append_left, get_or-append_right}
 use borrow.Rule.Slice.PartMut.{put_mid}
-use Rattle.sz_real.specs.Place.{GivesPart, PutsAt, TakesPart}
+use Rattle.sz_real.specs.Place.{PutsAt, TakesPart}
 
 -- an element before a part that was written
 index-put_mid_before : (a k i : ℕ) (xs ys : List ℕ) → a ≤ length xs → i < a → get_or (put_mid a k xs ys) i 0 ≡ get_or xs i 0

@@ -1,5 +1,5 @@
 -- What contracts see of the adapters: how often each has failed, and what it stands on.
-use Rattle.std.specs.Prelude.{◌≡◌, ℕ, Option}
+use Rattle.std.specs.Prelude.{ℕ, Option}
 use Rattle.sz_real.specs.declared.clock.RealClock.{RealClock}
 use Rattle.sz_real.specs.declared.connection.Limits.{Limits}
 use Rattle.sz_real.specs.declared.disk.FileDisk.{FileDisk}

@@ -1,6 +1,5 @@
 -- The file of a disk.
 use Rattle.std.specs.Prelude.{◌≡◌, List, ℕ, Option, Some, None, IfSome, IsSomeAnd}
-use Rattle.sz_real.specs.declared.disk.Held.{Held}
 use Rattle.sz_real.specs.declared.disk.Opening.{Opening}
 use Rattle.sz_real.specs.declared.disk.Opening.TheVariants.{NotTried, Refused, Open}
 use Rattle.sz_real.specs.declared.disk.FileDisk.{FileDisk}

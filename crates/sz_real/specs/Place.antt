@@ -1,5 +1,5 @@
 -- The bytes of a file by their places. A file has zeros behind its end.
-use Rattle.std.specs.Prelude.{◌≡◌, ℕ, ◌+◌, ◌-◌, ◌≤◌, ◌<◌, ◌⊎◌, List, [], length, take, drop, slice_index, Option, MatchOption, None, IsSomeAnd}
+use Rattle.std.specs.Prelude.{◌≡◌, ℕ, ◌+◌, ◌≤◌, ◌<◌, ◌⊎◌, List, [], length, take, drop, slice_index, Option, MatchOption, None, IsSomeAnd}
 
 -- These are bytes of the file from a place on, and none for some room only where the file has none there.
 pub record GivesPart (file : List ℕ) (at count : ℕ) (into : List ℕ) : Type 0 where

@@ -1,8 +1,5 @@
 -- What one write took stands behind what was done before.
-use Rattle.std.proofs.Common.{◌+◌, ◌++◌, take, length, min, sym, subst, arith, ap, ◌∙◌, ◌≡◌}
-use Rattle.std.proofs.Math.Seq.{take-add}
-use Rattle.std.proofs.lemmas.List.{take_rest}
-use Rattle.sz_real.specs.Place.{TakesPart}
+use Rattle.std.proofs.Common.{arith}
 use Rattle.sz_real.proofs.Parts.{wrote_more}
 use Rattle.sz_real.proofs.places.write_whole_to.Goals as goal
 
