@@ -32,3 +32,11 @@ base64_text bytes = encode alphabet 61 true bytes
 pub record IsBase64 (text bytes : List ℕ) : Type 0 where
   pub bytes_fit : IsBytes bytes
   pub spelled : text ≡ base64_text bytes
+
+-- the text is that of some bytes
+abbrev pub IsBase64Text : List ℕ → Type 0
+IsBase64Text text = (bytes : List ℕ) × IsBase64 text bytes
+
+-- the text is that of so many bytes
+abbrev pub IsBase64Of : List ℕ → ℕ → Type 0
+IsBase64Of text count = (bytes : List ℕ) × IsBase64 text bytes × (length bytes ≡ count)

@@ -8,20 +8,26 @@ use Rattle.sz_base.specs.Byte.{is_colon, is_one_of}
 abbrev pub is_name_byte : ℕ → Bool
 is_name_byte byte = is_ascii_alphanumeric byte || is_one_of (codes "-_.") byte
 
--- 1 to 255 such bytes: a name or an IPv4 text
+abbrev pub most_name_bytes : ℕ
+most_name_bytes = 255
+
+-- such bytes, at least one: a name or an IPv4 text
 pub record IsName (text : List ℕ) : Type 0 where
   pub some : 1 ≤ length text
-  pub most : length text ≤ 255
+  pub most : length text ≤ most_name_bytes
   pub allowed : AllPass is_name_byte text
 
 -- a hexadecimal digit, or one of two marks
 abbrev pub is_ipv6_byte : ℕ → Bool
 is_ipv6_byte byte = is_ascii_hexdigit byte || is_one_of (codes ":.") byte
 
--- 2 to 45 such bytes, at least two of them colons. Whether it is a real address is left to the connect.
+abbrev pub most_ipv6_bytes : ℕ
+most_ipv6_bytes = 45
+
+-- such bytes, at least two of them colons. Whether it is a real address is left to the connect.
 pub record IsIpv6Text (text : List ℕ) : Type 0 where
   pub some : 2 ≤ length text
-  pub most : length text ≤ 45
+  pub most : length text ≤ most_ipv6_bytes
   pub allowed : AllPass is_ipv6_byte text
   pub two_colons : 2 ≤ count_by is_colon text
 

@@ -1,11 +1,17 @@
-ghost use Rattle.std.specs.Prelude.{◌≡◌, ◌+◌, ◌*◌, ◌<◌, ◌↔◌, ℕ, List, length, slice_index, IfOk, IfSome, IfNone, IsNone};
-ghost use Rattle.sz_base.specs.Encoding.{IsBase64, IsColonHex, IsPair};
+//! The readers of bytes written as text: pairs of hexadecimal digits, and base64.
+
+ghost use Rattle.std.specs.Prelude.{◌≡◌, ◌+◌, ◌*◌, ◌<◌, ◌↔◌, ℕ, List, length, slice_index, IfSome, IfNone, IsNone, IsTrue};
+ghost use Rattle.sz_base.specs.Encoding.{IsBase64, IsBase64Of, IsBase64Text, IsColonHex, IsPair};
+ghost use Rattle.sz_base.specs.Reading.{ReadsValue};
 
 use crate::{BaseFault, Bytes};
 use base64::DecodeAllocError;
 use base64::engine::general_purpose::STANDARD;
 use hex::FromHex;
 use std::alloc::Global;
+
+// How many bytes four symbols stand for that are not padded.
+const WHOLE_GROUP: usize = 3;
 
 /// The 32 bytes of a text of 32 pairs of hexadecimal digits, in either case, joined by colons. `None`
 /// exactly where the text is none. Takes no memory.
@@ -49,15 +55,43 @@ fn pair(high: u8, low: u8) -> Option<u8>
 }
 
 /// Reads base64 (RFC 4648, section 4) with its padding, no spare bits and nothing else, so that a text has
-/// one reading and bytes have one text. `Form` only where the text is none; memory
-/// may run out before that shows.
+/// one reading and bytes have one text. `Form` exactly where the text is none, which shows before memory
+/// is asked for.
 pub fn base64_bytes(alloc: Global, text: &[u8]) -> Result<Bytes, BaseFault>
-    ensures ok { IfOk result (λ bytes. IsBase64 text.now bytes) }
-    ensures refused { result ≡ Err BaseFault.Form → (bytes : List ℕ) → ¬ IsBase64 text.now bytes }
+    ensures reads { ReadsValue (IsBase64 text.now) result }
 {
+    if !is_base64(text) {
+        return Err(BaseFault::Form);
+    }
     match STANDARD.decode(alloc, text) {
         Ok(bytes) => Ok(Bytes::from_vec(bytes)),
-        Err(DecodeAllocError::DecodeError(_)) => Err(BaseFault::Form),
         Err(DecodeAllocError::OutOfMemory) => Err(BaseFault::OutOfMemory),
+        Err(DecodeAllocError::DecodeError(_)) => unreachable!(),
     }
+}
+
+// The text is base64, four symbols after four, where the last four alone may stand for fewer than three bytes.
+fn is_base64(text: &[u8]) -> bool
+    ensures { IsTrue result ↔ IsBase64Text text.now }
+{
+    let mut rest = text;
+    while let Some((four, after)) = rest.split_first_chunk::<4>() {
+        let Some(size) = group_size(four) else {
+            return false;
+        };
+        if size != WHOLE_GROUP && !after.is_empty() {
+            return false;
+        }
+        rest = after;
+    }
+    rest.is_empty()
+}
+
+// how many bytes the four symbols stand for
+fn group_size(four: &[u8; 4]) -> Option<usize>
+    ensures some { IfSome result (IsBase64Of four.now) }
+    ensures none { IfNone result (¬ IsBase64Text four.now) }
+{
+    let mut bytes = [0; 3];
+    STANDARD.decode_slice(four, &mut bytes).ok()
 }

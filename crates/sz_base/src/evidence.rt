@@ -1,3 +1,5 @@
+//! The artifacts that authorise a bootstrap, as a source hands them over.
+
 ghost use Rattle.std.specs.Prelude.{◌≡◌, IfOk};
 
 use crate::{Bytes, OutOfMemory};

@@ -1,4 +1,7 @@
-ghost use Rattle.std.specs.Prelude.{◌≡◌};
+//! The faults that every crate shares, each with the words that it shows.
+
+ghost use Rattle.std.specs.Prelude.{◌≡◌, Some};
+ghost use Rattle.sz_base.specs.Fault.{base_words, failed_words, memory_words, put_words};
 ghost use Rattle.sz_base.specs.declared.fault.BaseFault.TheVariants.{OutOfMemory as base_memory};
 ghost use Rattle.sz_base.specs.declared.fault.PutFault.TheVariants.{OutOfMemory as put_memory};
 
@@ -11,6 +14,8 @@ use std::fmt;
 pub struct Failed;
 
 impl fmt::Display for Failed {
+    ghost output = { λ _. Some failed_words };
+
     fn fmt<W: fmt::Write>(&self, f: &mut fmt::Formatter<W>) -> fmt::Result {
         f.write_str("the outside failed")
     }
@@ -23,6 +28,8 @@ impl Error for Failed {}
 pub struct OutOfMemory;
 
 impl fmt::Display for OutOfMemory {
+    ghost output = { λ _. Some memory_words };
+
     fn fmt<W: fmt::Write>(&self, f: &mut fmt::Formatter<W>) -> fmt::Result {
         f.write_str("out of memory")
     }
@@ -52,6 +59,8 @@ pub enum PutFault {
 }
 
 impl fmt::Display for PutFault {
+    ghost output = { λ fault. Some (put_words fault) };
+
     fn fmt<W: fmt::Write>(&self, f: &mut fmt::Formatter<W>) -> fmt::Result {
         match self {
             PutFault::Failed => write!(f, "{Failed}"),
@@ -80,6 +89,8 @@ pub enum BaseFault {
 }
 
 impl fmt::Display for BaseFault {
+    ghost output = { λ fault. Some (base_words fault) };
+
     fn fmt<W: fmt::Write>(&self, f: &mut fmt::Formatter<W>) -> fmt::Result {
         match self {
             BaseFault::Form => f.write_str("not in its form"),

@@ -1,9 +1,16 @@
+//! Hosts, and the reader of their texts.
+
 ghost use Rattle.std.specs.Prelude.{◌≡◌, ◌≢◌, ◌↔◌, List, ℕ, IsTrue, IfOk, IfSome, IfNone};
 ghost use Rattle.sz_base.specs.Host.{in_brackets, is_ipv6_byte, is_name_byte, IsHost, IsIpv6Text, IsName};
+ghost use Rattle.sz_base.specs.Reading.{ReadsText};
 
 use crate::{BaseFault, OutOfMemory, Text};
 use std::alloc::Global;
 use std::marker::Model;
+
+const MOST_NAME_BYTES: usize = 255;
+
+const MOST_IPV6_BYTES: usize = 45;
 
 /// Where to connect to: a name of 1 to 255 bytes of letters, digits, `-`, `_` and `.`, or an IPv6 text in
 /// brackets. Contracts see it as its bytes.
@@ -26,9 +33,7 @@ impl Model for Host {
 impl Host {
     /// Reads a host. `Form` exactly where the text is none.
     pub fn read(alloc: Global, text: &[u8]) -> Result<Self, BaseFault>
-        ensures ok { IfOk result (λ host. host ≡ text.now) }
-        ensures form { IfOk result (λ _. IsHost text.now) }
-        ensures refused { (result ≡ Err BaseFault.Form) ↔ ¬ IsHost text.now }
+        ensures reads { ReadsText IsHost text.now result }
     {
         if !is_host(text) {
             return Err(BaseFault::Form);
@@ -77,7 +82,7 @@ fn inside_brackets(text: &[u8]) -> Option<&[u8]>
 fn is_name(text: &[u8]) -> bool
     ensures { IsTrue result ↔ IsName text.now }
 {
-    matches!(text.len(), 1..=255) && text.iter().all(|byte| is_name_byte(*byte))
+    matches!(text.len(), 1..=MOST_NAME_BYTES) && text.iter().all(|byte| is_name_byte(*byte))
 }
 
 fn is_name_byte(byte: u8) -> bool
@@ -89,7 +94,7 @@ fn is_name_byte(byte: u8) -> bool
 fn is_ipv6_text(text: &[u8]) -> bool
     ensures { IsTrue result ↔ IsIpv6Text text.now }
 {
-    matches!(text.len(), 2..=45)
+    matches!(text.len(), 2..=MOST_IPV6_BYTES)
         && text.iter().all(|byte| is_ipv6_byte(*byte))
         && text.iter().filter(|byte| **byte == b':').count() >= 2
 }

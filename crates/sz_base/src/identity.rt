@@ -1,8 +1,17 @@
+//! What a device is made with.
+
 ghost use Rattle.std.specs.Prelude.{◌≡◌, ◌≤◌, ◌↔◌, length, IsTrue, IfOk};
 ghost use Rattle.std.specs.List.{All};
+ghost use Rattle.sz_base.specs.Identity.{most_anchor_bytes};
 
 use crate::{Bytes, Certs, OutOfMemory, Serial, Text};
 use std::alloc::Global;
+
+const MOST_ANCHORS: usize = 8;
+
+const MOST_ANCHOR_BYTES: usize = 65_536;
+
+const MOST_OS_BYTES: usize = 256;
 
 /// What a device is made with: its serial number, the certificates that it trusts, and the name and the
 /// version of its operating system.
@@ -23,9 +32,9 @@ impl Identity {
     pub fn is_whole(&self) -> bool
         ensures { IsTrue result ↔ IsWhole self.now }
     {
-        matches!(self.anchors.len(), 1..=8)
-            && self.os_name.len() <= 256
-            && self.os_version.len() <= 256
+        matches!(self.anchors.len(), 1..=MOST_ANCHORS)
+            && self.os_name.len() <= MOST_OS_BYTES
+            && self.os_version.len() <= MOST_OS_BYTES
             && are_short(self.anchors.as_slice())
     }
 
@@ -48,7 +57,9 @@ impl Identity {
 
 // each of them has at most 65,536 bytes
 fn are_short(anchors: &[Bytes]) -> bool
-    ensures { IsTrue result ↔ All (λ anchor. length anchor ≤ 65536) anchors.now }
+    ensures { IsTrue result ↔ All (λ anchor. length anchor ≤ most_anchor_bytes) anchors.now }
 {
-    anchors.iter().all(|anchor| anchor.len() <= 65_536)
+    anchors
+        .iter()
+        .all(|anchor| anchor.len() <= MOST_ANCHOR_BYTES)
 }

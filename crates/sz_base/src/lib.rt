@@ -8,10 +8,12 @@ mod evidence;
 mod fault;
 mod host;
 mod identity;
+mod image;
 mod laws;
+mod line;
 mod list;
+mod moment;
 mod numbers;
-mod seconds;
 mod serial;
 mod target;
 
@@ -20,13 +22,15 @@ pub use evidence::Evidence;
 pub use fault::{BaseFault, Failed, OutOfMemory, PutFault};
 pub use host::Host;
 pub use identity::Identity;
+pub use image::{ImageFault, ImageFaults};
 pub use laws::{
     base64_reads_back, hosts_read_back, numbers_read_back, pairs_read_once, serials_read_back,
     targets_read_back,
 };
-pub use list::{Bytes, Calls, Certs, Items, Messages, Signatures, Text, Texts};
+pub use line::LineKind;
+pub use list::{Bytes, Calls, Certs, Items, Messages, Numbers, Signatures, Text, Texts};
+pub use moment::{Moment, Seconds};
 pub use numbers::number;
-pub use seconds::Seconds;
 pub use serial::Serial;
 pub use target::{Target, Targets};
 

@@ -1,4 +1,6 @@
-ghost use Rattle.std.specs.Prelude.{◌≡◌, ◌+◌, ◌≤◌, ◌↔◌, List, [], ◌∷◌, ◌++◌, length, IsTrue, IfOk, OnOk, OnErr, IfSome, IfNone, IsSome, IsNone, slice_get};
+//! The lists that contracts see as lists, and the names of those that are used.
+
+ghost use Rattle.std.specs.Prelude.{◌≡◌, ◌↔◌, List, [], ◌∷◌, ◌++◌, length, IsTrue, IfOk, OnOk, OnErr, IfSome, IfNone, IsNone, slice_get};
 ghost use Rattle.std.specs.Option.{option_copied};
 
 use crate::OutOfMemory;
@@ -31,6 +33,9 @@ pub type Signatures = Items<Bytes>;
 
 /// Numbers of calls, counted from 1.
 pub type Calls = Items<u64>;
+
+/// Numbers.
+pub type Numbers = Items<u32>;
 
 impl<T> Model for Items<T> {
     ghost Value = { List T };

@@ -1,3 +1,5 @@
+//! The readers of numbers in decimal.
+
 ghost use Rattle.std.specs.Prelude.{◌↔◌, ℕ, IsTrue, IfSome, IsNone};
 ghost use Rattle.sz_base.specs.Number.{IsNumber, IsNumeral};
 ghost use Rattle.sz_base.specs.Target.{IsPort};

@@ -1,9 +1,14 @@
+//! Serial numbers, and the reader of their texts.
+
 ghost use Rattle.std.specs.Prelude.{◌≡◌, ◌↔◌, IsTrue, IfOk};
+ghost use Rattle.sz_base.specs.Reading.{ReadsText};
 ghost use Rattle.sz_base.specs.Serial.{is_serial_byte, IsSerial};
 
 use crate::{BaseFault, OutOfMemory, Text};
 use std::alloc::Global;
 use std::marker::Model;
+
+const MOST_BYTES: usize = 64;
 
 /// A device's serial number: 1 to 64 bytes of letters, digits, `-`, `_`, `.`, `:` and `+`, the first of
 /// them no point. Contracts see it as its bytes.
@@ -26,9 +31,7 @@ impl Model for Serial {
 impl Serial {
     /// Reads a serial number. `Form` exactly where the text is none.
     pub fn read(alloc: Global, text: &[u8]) -> Result<Self, BaseFault>
-        ensures ok { IfOk result (λ serial. serial ≡ text.now) }
-        ensures form { IfOk result (λ _. IsSerial text.now) }
-        ensures refused { (result ≡ Err BaseFault.Form) ↔ ¬ IsSerial text.now }
+        ensures reads { ReadsText IsSerial text.now result }
     {
         if !is_serial(text) {
             return Err(BaseFault::Form);
@@ -57,7 +60,9 @@ impl Serial {
 fn is_serial(text: &[u8]) -> bool
     ensures { IsTrue result ↔ IsSerial text.now }
 {
-    matches!(text.len(), 1..=64) && text[0] != b'.' && text.iter().all(|byte| is_serial_byte(*byte))
+    matches!(text.len(), 1..=MOST_BYTES)
+        && text[0] != b'.'
+        && text.iter().all(|byte| is_serial_byte(*byte))
 }
 
 fn is_serial_byte(byte: u8) -> bool

@@ -1,5 +1,8 @@
+//! Servers to connect to, and the reader of their texts.
+
 ghost use Rattle.std.specs.Prelude.{◌≡◌, ◌≢◌, ◌<◌, ◌↔◌, ℕ, length, slice_index, IfOk, IfSome, IfNone};
 ghost use Rattle.sz_base.specs.Byte.{IsLastColon};
+ghost use Rattle.sz_base.specs.Reading.{ReadsValue};
 
 use crate::numbers::port;
 use crate::{BaseFault, Host, Items, OutOfMemory};
@@ -17,14 +20,12 @@ pub struct Target {
 pub type Targets = Items<Target>;
 
 impl Target {
-    ghost use Rattle.sz_base.specs.declared.target.Target.{Target};
     ghost use Rattle.sz_base.specs.Target.{IsTarget};
 
     /// Reads a target: the host before the last colon, and the port after it. `Form` exactly where the
     /// text is none.
     pub fn read(alloc: Global, text: &[u8]) -> Result<Self, BaseFault>
-        ensures ok { IfOk result (λ target. IsTarget target text.now) }
-        ensures refused { (result ≡ Err BaseFault.Form) ↔ ((target : Target) → ¬ IsTarget target text.now) }
+        ensures reads { ReadsValue (λ target. IsTarget target text.now) result }
     {
         let Some(at) = last_colon(text) else {
             return Err(BaseFault::Form);

@@ -1,3 +1,5 @@
+//! The texts on both sides of each form, and the lists.
+
 use crate::{
     BaseFault, Bytes, Calls, Certs, Evidence, Host, Identity, OutOfMemory, Serial, Target, Targets,
     Text, Texts, base64_bytes, colon_hex, number,
@@ -29,15 +31,6 @@ const BAD_MARK: &[u8] =
 const READ: Result<bool, BaseFault> = Ok(true);
 
 const FORM: Result<bool, BaseFault> = Err(BaseFault::Form);
-
-#[test]
-fn texts_out_of_their_forms(rt: HostRuntime) {
-    let alloc = rt.alloc();
-    assert_eq!(rt; serial_reads(alloc, b""), FORM);
-    assert_eq!(rt; target_reads(alloc, b"host:0", b"host", 0), FORM);
-    assert_eq!(rt; base64_reads(alloc, b"YWJ", b"ab"), FORM);
-    assert_eq!(rt; colon_hex(&LOWER[..92]), None);
-}
 
 fn serial_reads(alloc: Global, text: &[u8]) -> Result<bool, BaseFault> {
     let serial = Serial::read(alloc, text)?;
@@ -166,6 +159,7 @@ fn base64_by_form(rt: HostRuntime) {
         (b"Zm9vYmFy", b"foobar", READ),
         (b"+/+/", b"\xfb\xff\xbf", READ),
         (b"-_-_", b"\xfb\xff\xbf", FORM),
+        (b"YWJ", b"ab", FORM),
         (b"Zg", b"f", FORM),
         (b"Zg=", b"f", FORM),
         (b"Zg===", b"f", FORM),
