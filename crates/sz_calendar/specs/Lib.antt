@@ -1,0 +1,3 @@
+pub mod Gregorian
+pub mod CivilTime
+pub mod DateTime
