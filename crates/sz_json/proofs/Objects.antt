@@ -84,7 +84,8 @@ plain_put levels key value (member other there rest) one all =
 abbrev pub IsPlainWhere : ℕ → Option Data → Type 0
 IsPlainWhere levels o = IfSome o (IsPlain levels)
 
-pub plain_with_member : (levels : ℕ) (name : Name) (o : Option Data) (before : Members) → IsPlainWhere levels o → ArePlain levels before → ArePlain levels (with_member name o before)
+pub plain_with_member : (levels : ℕ) (name : Name) (o : Option Data) (before : Members)
+    → IsPlainWhere levels o → ArePlain levels before → ArePlain levels (with_member name o before)
 plain_with_member levels name None before one all = all
 plain_with_member levels name (Some value) before one all = plain_put levels (name_text name) value before one all
 

@@ -10,7 +10,7 @@ use Rattle.jiff_fmt.specs.Temporal.{parse_timestamp}
 use Rattle.serde_json.specs.Data.{Data, Items}
 use Rattle.serde_json.specs.Find.{as_array, as_bool, as_number, as_object, as_str, as_u64}
 use Rattle.sz_base.specs.Encoding.{base64_text}
-use Rattle.sz_base.specs.declared.seconds.Seconds.{Seconds}
+use Rattle.sz_base.specs.declared.moment.Seconds.{Seconds}
 
 -- a text
 abbrev pub text_of : Data → Option (List ℕ)
@@ -41,11 +41,12 @@ port_in_range number = if nat_le 1 number && nat_le number 65535 then Some numbe
 abbrev pub port_of : Data → Option ℕ
 port_of value = option_and_then port_in_range (option_and_then as_u64 (as_number value))
 
--- The second in which the instant of the text lies, which is the text of a Timestamp of `jiff` (RFC 3339): a fraction is dropped
--- downwards.
+-- The second in which the instant of the text lies, which is the text of a Timestamp of `jiff` (RFC 3339): a
+-- fraction is dropped downwards.
 unfoldable pub seconds_of : List ℕ → Option Seconds
 seconds_of text =
-    option_map (λ nanoseconds. record { 0 = int_div_euclid nanoseconds (pos 1_000_000_000) }) (result_ok (parse_timestamp text))
+    option_map (λ nanoseconds. record { 0 = int_div_euclid nanoseconds (pos 1_000_000_000) })
+    (result_ok (parse_timestamp text))
 
 -- a date and a time of day
 abbrev pub date_time_of : Data → Option Seconds

@@ -15,10 +15,11 @@ abbrev pub in_form : {A : Type 0} → (Data → Option A) → Name → Option Da
 in_form form name None = Ok None
 in_form form name (Some value) = or_fault name (option_map Some (form value))
 
--- The member of this name in this form, where the object has one. A value that is no object is at fault under the name
--- that is asked for.
+-- The member of this name in this form, where the object has one. A value that is no object is at fault under
+-- the name that is asked for.
 abbrev pub optional : {A : Type 0} → (Data → Option A) → Name → Data → Result (Option A) Name
-optional form name value = if is_some (as_object value) then in_form form name (get (name_text name) value) else Err name
+optional form name value =
+    if is_some (as_object value) then in_form form name (get (name_text name) value) else Err name
 
 -- a member that has to be there
 abbrev pub needed : {A : Type 0} → Name → Result (Option A) Name → Result A Name

@@ -1,3 +1,5 @@
+//! The readers and the writer on worked texts.
+
 use crate::{
     JsonFault, Name, Object, Value, binary, date_time, flag, list, member, object, port, read,
     string, text, time, write,

@@ -1,4 +1,4 @@
-//! Objects that are written, a member at a time.
+//! The writer of objects, a member at a time.
 
 ghost use Rattle.std.specs.Prelude.{◌≡◌, option_map, string_bytes, IfOk, OnOk, OnErr};
 ghost use Rattle.std.specs.Option.{option_copied};
@@ -85,7 +85,8 @@ impl Object {
 
     /// Puts bytes, as their text in base64.
     pub fn put_binary(&mut self, alloc: Global, name: Name, bytes: &[u8]) -> Result<(), OutOfMemory>
-        ensures ok { OnOk result (members_in self.new ≡ put (name_text name) (binary_value bytes.now) (members_in self.old)) }
+        ensures ok { OnOk result (members_in self.new
+            ≡ put (name_text name) (binary_value bytes.now) (members_in self.old)) }
         ensures err { OnErr result (members_in self.new ≡ members_in self.old) }
     {
         self.put(alloc, name, Value::from(base64(alloc, bytes)?))
@@ -118,7 +119,8 @@ impl Object {
 
     /// Puts a number.
     pub fn put_number(&mut self, alloc: Global, name: Name, n: u64) -> Result<(), OutOfMemory>
-        ensures ok { OnOk result (members_in self.new ≡ put (name_text name) (number (unsigned n)) (members_in self.old)) }
+        ensures ok { OnOk result (members_in self.new
+            ≡ put (name_text name) (number (unsigned n)) (members_in self.old)) }
         ensures err { OnErr result (members_in self.new ≡ members_in self.old) }
     {
         self.put(alloc, name, Value::from(n))
