@@ -1,11 +1,11 @@
 -- The first fault of a value, and what a reader that finds it answers.
-use Rattle.std.specs.Prelude.{◌≡◌, ◌⊎◌, ℕ, List, [], ◌∷◌, Option, Some, None, Result, Ok, Err, ⊤}
+use Rattle.std.specs.Prelude.{◌≡◌, ◌⊎◌, ℕ, List, [], ◌∷◌, Option, Some, None, Result, Ok, Err}
 use Rattle.serde_json.specs.Data.{Data}
 use Rattle.sz_json.specs.Json.{IsJson}
 use Rattle.sz_json.specs.declared.name.Name.{Name}
 use Rattle.sz_json.specs.declared.name.Name.TheVariants.{Json}
 use Rattle.sz_json.specs.declared.fault.JsonFault.{JsonFault}
-use Rattle.sz_json.specs.declared.fault.JsonFault.TheVariants.{Member, OutOfMemory}
+use Rattle.sz_json.specs.declared.fault.JsonFault.TheVariants.{Member}
 
 -- the fault of a member, if it is at fault
 abbrev pub fault_of : {A : Type 0} → Result A Name → Option Name
@@ -27,10 +27,13 @@ abbrev pub first_inside : {A : Type 0} → Result A Name → (A → Option Name)
 first_inside (Ok found) inside = inside found
 first_inside (Err name) inside = Some name
 
--- the answer is this fault, unless memory ran out
+-- the answer names a member as at fault only where it is this one; else memory ran out
 abbrev pub IsFault : Option Name → JsonFault → Type 0
-IsFault found (Member name) = found ≡ Some name
-IsFault found OutOfMemory = ⊤
+IsFault found fault = (name : Name) → fault ≡ Member name → found ≡ Some name
+
+-- the answer names the whole text as at fault only where it is none of JSON; else memory ran out
+abbrev pub IsNoJson : List ℕ → JsonFault → Type 0
+IsNoJson text fault = (name : Name) → fault ≡ Member name → (name ≡ Json) × ((value : Data) → ¬ (IsJson text value))
 
 -- the text is none of JSON, and refused as such, or the first fault of its value has this name
 abbrev pub IsRefused : (Data → Option Name) → List ℕ → Name → Type 0
@@ -38,7 +41,6 @@ IsRefused first_fault text name =
     ((name ≡ Json) × ((value : Data) → ¬ (IsJson text value)))
     ⊎ ((value : Data) × IsJson text value × (first_fault value ≡ Some name))
 
--- the answer is such a refusal of the text, unless memory ran out
+-- the answer names a member as at fault only where the text is refused so; else memory ran out
 abbrev pub IsTextFault : (Data → Option Name) → List ℕ → JsonFault → Type 0
-IsTextFault first_fault text (Member name) = IsRefused first_fault text name
-IsTextFault first_fault text OutOfMemory = ⊤
+IsTextFault first_fault text fault = (name : Name) → fault ≡ Member name → IsRefused first_fault text name

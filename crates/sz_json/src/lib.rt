@@ -14,10 +14,13 @@ mod writing;
 pub use document::{read, write};
 pub use fault::JsonFault;
 pub use laws::binary_is_base64;
-pub use members::{binary, flag, list, member, object, port, string, text};
+pub use members::{
+    binary, flag, list, member, object, port, required_binary, required_object, required_string, required_text, string,
+    text,
+};
 pub use name::Name;
 pub use serde_json::Value;
-pub use times::{date_time, time};
+pub use times::{date_time, required_time, time};
 pub use writing::Object;
 
 #[cfg(test)]

@@ -1,8 +1,8 @@
 //! The readers and the writer on worked texts.
 
 use crate::{
-    JsonFault, Name, Object, Value, binary, date_time, flag, list, member, object, port, read,
-    string, text, time, write,
+    JsonFault, Name, Object, Value, binary, date_time, flag, list, member, object, port, read, required_binary,
+    required_object, required_string, required_text, required_time, string, text, time, write,
 };
 use std::alloc::Global;
 use sz_base::{OutOfMemory, Seconds};
@@ -35,6 +35,13 @@ fn said<T: Drop>(answer: Result<Option<T>, JsonFault>, name: Name) -> u8 {
     }
 }
 
+fn there<T>(answer: Result<T, JsonFault>) -> Result<Option<T>, JsonFault> {
+    match answer {
+        Ok(found) => Ok(Some(found)),
+        Err(fault) => Err(fault),
+    }
+}
+
 fn read_by(alloc: Global, reader: u8, value: &Value, name: Name) -> u8 {
     match reader {
         0 => said(member(value, name), name),
@@ -45,14 +52,19 @@ fn read_by(alloc: Global, reader: u8, value: &Value, name: Name) -> u8 {
         5 => said(port(value, name), name),
         6 => said(time(value, name), name),
         7 => said(object(value, name), name),
-        _ => said(list(value, name), name),
+        8 => said(list(value, name), name),
+        9 => said(there(required_string(value, name)), name),
+        10 => said(there(required_text(alloc, value, name)), name),
+        11 => said(there(required_binary(alloc, value, name)), name),
+        12 => said(there(required_object(value, name)), name),
+        _ => said(there(required_time(value, name)), name),
     }
 }
 
 #[test]
 fn members_by_form(rt: HostRuntime) -> Result<(), JsonFault> {
     let value = read(rt.alloc(), VALUE)?;
-    let rows: [(u8, &[u8; 11]); 9] = [
+    let rows: [(u8, &[u8; 11]); 14] = [
         (0, b"++++++++++0"),
         (1, b"++--+-----0"),
         (2, b"++--+-----0"),
@@ -62,6 +74,11 @@ fn members_by_form(rt: HostRuntime) -> Result<(), JsonFault> {
         (6, b"----+-----0"),
         (7, b"-----+----0"),
         (8, b"------+---0"),
+        (9, b"++--+------"),
+        (10, b"++--+------"),
+        (11, b"-+---------"),
+        (12, b"-----+-----"),
+        (13, b"----+------"),
     ];
     for (reader, want) in rows {
         for (at, name) in NAMES.iter().enumerate() {

@@ -5,9 +5,9 @@ ghost use Rattle.std.specs.Option.{option_copied};
 ghost use Rattle.serde_json.specs.View.{view};
 ghost use Rattle.sz_json.specs.Fault.{fault_of, IsFault};
 ghost use Rattle.sz_json.specs.Form.{date_time_of, seconds_of};
-ghost use Rattle.sz_json.specs.Member.{optional};
+ghost use Rattle.sz_json.specs.Member.{optional, required};
 
-use crate::members::{find, formed};
+use crate::members::{formed, member, needed};
 use crate::{JsonFault, Name, Value};
 use jiff_fmt::temporal::parse_timestamp;
 use sz_base::Seconds;
@@ -29,9 +29,20 @@ pub fn time(value: &Value, name: Name) -> Result<Option<Seconds>, JsonFault>
     ensures ok { IfOk result (λ found. optional date_time_of name (view value.now) ≡ Ok found) }
     ensures refused { IfErr result (IsFault (fault_of (optional date_time_of name (view value.now)))) }
 {
-    match find(value, name)? {
+    match member(value, name)? {
         Some(member) => formed(in_text(member.as_str()), name),
         None => Ok(None),
+    }
+}
+
+/// A member that is such a text and has to be there.
+pub fn required_time(value: &Value, name: Name) -> Result<Seconds, JsonFault>
+    ensures ok { IfOk result (λ seconds. required date_time_of name (view value.now) ≡ Ok seconds) }
+    ensures refused { IfErr result (IsFault (fault_of (required date_time_of name (view value.now)))) }
+{
+    match member(value, name)? {
+        Some(member) => needed(in_text(member.as_str()), name),
+        None => Err(JsonFault::Member { name }),
     }
 }
 

@@ -8,4 +8,5 @@ returns-in-Ok-clause-ok c = base64_of-text _ _ (rw c.as_bytes.ensures.value at c
 pub returns-in-Err-Form-clause-refused : goal.returns-in-Err-Form-clause-refused
 returns-in-Err-Form-clause-refused c =
     let refused = rw (c.in-Err-Form.field-0-is, c.as_bytes.ensures.value) at c.in-Err-Form.ensures.reads.refused in
-    rw (base64_of-none c.args.text.now (refused.0 refl))
+    let none = base64_of-none c.args.text.now (refused.0 refl) in
+    λ name same. rw none (cc)
