@@ -8,8 +8,8 @@ ghost use Rattle.sz_json.specs.Json.{IsJson};
 ghost use Rattle.sz_conveyed.specs.Conveyed.{conveyed_fault, ConveyedOf, has_onboarding, IsConveyed, top_fault};
 
 use crate::Onboarding;
-use crate::read_onboarding::onboarding;
-use crate::read_redirect::redirect;
+use crate::information::read_onboarding;
+use crate::redirect::read_redirect;
 use std::alloc::Global;
 use sz_base::Targets;
 use sz_json::{JsonFault, Name, Value};
@@ -30,7 +30,7 @@ impl Conveyed {
         ensures refused { IfErr result (IsTextFault conveyed_fault content.now) }
     {
         let value = sz_json::read(alloc, content)?;
-        conveyed(alloc, &value)
+        of_value(alloc, &value)
     }
 }
 
@@ -45,14 +45,14 @@ pub fn is_onboarding(alloc: Global, content: &[u8]) -> Result<bool, JsonFault>
     has_onboarding(&value)
 }
 
-fn conveyed(alloc: Global, value: &Value) -> Result<Conveyed, JsonFault>
+fn of_value(alloc: Global, value: &Value) -> Result<Conveyed, JsonFault>
     ensures ok { IfOk result (IsConveyed (view value.now)) }
     ensures refused { IfErr result (IsFault (conveyed_fault (view value.now))) }
 {
     if has_onboarding(value)? {
-        Ok(Conveyed::Onboarding(onboarding(alloc, value)?))
+        Ok(Conveyed::Onboarding(read_onboarding(alloc, value)?))
     } else {
-        Ok(Conveyed::Redirect(redirect(alloc, value)?))
+        Ok(Conveyed::Redirect(read_redirect(alloc, value)?))
     }
 }
 

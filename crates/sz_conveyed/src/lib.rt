@@ -4,11 +4,11 @@
 #![tactic(auto)]
 
 mod conveyed;
+mod image;
+mod information;
 mod onboarding;
-mod read_image;
-mod read_onboarding;
-mod read_redirect;
+mod redirect;
 
 pub use conveyed::{Conveyed, is_onboarding};
 pub use onboarding::{BootImage, Handling, LONGEST_NAME, Onboarding};
-pub use read_redirect::DEFAULT_PORT;
+pub use redirect::DEFAULT_PORT;

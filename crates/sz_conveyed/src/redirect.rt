@@ -26,7 +26,7 @@ const BAD_ADDRESS: JsonFault = JsonFault::Member {
 
 /// The targets of a value of redirect information.
 #[tactic(auto, using(sz_json::proofs::Faults::first_fault, sz_json::proofs::Faults::outer_fault))]
-pub(crate) fn redirect(alloc: Global, value: &Value) -> Result<Targets, JsonFault>
+pub(crate) fn read_redirect(alloc: Global, value: &Value) -> Result<Targets, JsonFault>
     ensures ok { IfOk result (IsRedirect (view value.now)) }
     ensures refused { IfErr result (IsFault (redirect_fault (view value.now))) }
 {

@@ -1,7 +1,7 @@
 use Rattle.std.proofs.Common.{◌≡◌, ℕ, List, Option, length}
 use Rattle.serde_json.specs.View.{items_view}
 use Rattle.sz_conveyed.specs.Image.{hash_fault, NamesHash}
-use Rattle.sz_conveyed.proofs.read_image.named_hash.Given as goal
+use Rattle.sz_conveyed.proofs.image.named_hash.Given as goal
 
 abbrev pub invariant-entries : goal.invariant-entries
 invariant-entries l = record {

@@ -27,7 +27,7 @@ const BAD_HASH: JsonFault = JsonFault::Member {
 
 /// The boot image of a value.
 #[tactic(auto, using(sz_json::proofs::Faults::first_fault))]
-pub(crate) fn image(alloc: Global, value: &Value) -> Result<BootImage, JsonFault>
+pub(crate) fn read_image(alloc: Global, value: &Value) -> Result<BootImage, JsonFault>
     ensures ok { IfOk result (IsBootImage (view value.now)) }
     ensures refused { IfErr result (IsFault (image_fault (view value.now))) }
 {

@@ -2,7 +2,7 @@ use Rattle.std.proofs.Common.{◌≡◌, List, ◌++◌, length}
 use Rattle.serde_json.specs.View.{items_view}
 use Rattle.sz_base.specs.declared.target.Target.{Target}
 use Rattle.sz_conveyed.specs.Redirect.{AreServers, servers_fault}
-use Rattle.sz_conveyed.proofs.read_redirect.targets.Given as goal
+use Rattle.sz_conveyed.proofs.redirect.targets.Given as goal
 
 abbrev pub invariant-servers : goal.invariant-servers
 invariant-servers l = record {

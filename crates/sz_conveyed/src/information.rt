@@ -10,7 +10,7 @@ ghost use Rattle.sz_json.specs.Member.{optional, required};
 ghost use Rattle.sz_json.specs.declared.name.Name.{Name};
 ghost use Rattle.sz_conveyed.specs.Onboarding.{handling_of, handling_of_text, image_fault_where, information_fault, IsImageWhere, IsInformation, IsOnboarding, onboarding_fault};
 
-use crate::read_image::image;
+use crate::image::read_image;
 use crate::{BootImage, Handling, Onboarding};
 use std::alloc::Global;
 use sz_json::{JsonFault, Name, Value, binary, member, object, required_object};
@@ -21,7 +21,7 @@ const BAD_HANDLING: JsonFault = JsonFault::Member {
 
 /// The onboarding information of a value.
 #[tactic(auto, using(sz_json::proofs::Faults::outer_fault))]
-pub(crate) fn onboarding(alloc: Global, value: &Value) -> Result<Onboarding, JsonFault>
+pub(crate) fn read_onboarding(alloc: Global, value: &Value) -> Result<Onboarding, JsonFault>
     ensures ok { IfOk result (IsOnboarding (view value.now)) }
     ensures refused { IfErr result (IsFault (onboarding_fault (view value.now))) }
 {
@@ -56,7 +56,7 @@ fn boot_image(alloc: Global, information: &Value) -> Result<Option<BootImage>, J
         image_fault_where)) }
 {
     match object(information, Name::BootImage)? {
-        Some(value) => Ok(Some(image(alloc, value)?)),
+        Some(value) => Ok(Some(read_image(alloc, value)?)),
         None => Ok(None),
     }
 }
