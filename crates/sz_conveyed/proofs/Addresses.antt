@@ -1,10 +1,10 @@
 -- The tests of an address are the forms of hosts.
-use Rattle.std.proofs.Common.{◌≡◌, ℕ, ◌+◌, ◌-◌, ◌≤◌, ◌&&◌, ◌||◌, Bool, true, false, if◌then◌else◌, List, [], ◌∷◌, ◌++◌, length, take, drop, Option, Some, None, nat_le, refl, sym, ap, subst, ◌∙◌, inl, inr, arith, codes}
+use Rattle.std.proofs.Common.{◌≡◌, ℕ, ◌+◌, ◌-◌, ◌≤◌, ◌&&◌, ◌||◌, Bool, true, false, if◌then◌else◌, List, [], ◌∷◌, ◌++◌, length, take, drop, Option, Some, None, nat_le, refl, sym, ap, subst, ◌∙◌, inl, inr, arith, codes, length-append}
 use Rattle.std.proofs.lemmas.Bool.{cases_Bool, true≢false}
 use Rattle.std.proofs.lemmas.Bool.Decides.{nat_tests}
 use Rattle.std.proofs.lemmas.List.Sums.{AllPass-from_list_all, list_all-from_AllPass}
 use Rattle.std.proofs.lemmas.Slice.Eq.{bytes_eq-Decides}
-use Rattle.std.proofs.lemmas.List.{take-append-le}
+use Rattle.std.proofs.Math.Seq.{take-append_seam}
 use Rattle.std.specs.Bool.{Decides}
 use Rattle.std.specs.List.{AllPass, list_all}
 use Rattle.std.specs.Prelude.{count_by, ◌⊎◌}
@@ -55,13 +55,15 @@ ipv6_decides text = (
       rw (some, most, all, colons))
 
 inner-in_brackets : (text : List ℕ) → inner (in_brackets text) ≡ text
-inner-in_brackets text = ?
+inner-in_brackets text =
+    let size : length (in_brackets text) - 2 ≡ length text = omega (arith, length-append text (93 ∷ [])) in
+    rw size (take-append_seam text (93 ∷ []))
 
 brackets_decide : (text : List ℕ) → Decides (is_in_brackets text) (IsInBrackets text)
 brackets_decide text = (
     λ h.
       let parts = both _ _ h in
-      (inner text, ((bytes_eq-Decides text (in_brackets (inner text))).0 parts.0, (ipv6_decides (inner text)).0 parts.1)),
+      (inner text, (bytes_eq-Decides text (in_brackets (inner text))).0 parts.0, (ipv6_decides (inner text)).0 parts.1),
     λ h.
       let same : inner text ≡ h.0 = ap inner h.1 ∙ inner-in_brackets h.0 in
       let spelled : text ≡ in_brackets (inner text) = h.1 ∙ ap in_brackets (sym same) in
@@ -93,25 +95,30 @@ pub host_of-host : (text : List ℕ) → IsHost text → host_of text ≡ Some t
 unfolding host_of
 host_of-host text h = rw ((host_decides text).1 h)
 
+no_bracket : (text : List ℕ) → AllPass is_name_byte (in_brackets text) → ⊥
+no_bracket text h =
+    let all : list_all is_name_byte (in_brackets text) ≡ true = list_all-from_AllPass is_name_byte (in_brackets text) h in
+    cc
+
 -- an IPv6 text in brackets is a host, and no other text is
 pub ipv6_from_brackets : (text : List ℕ) → IsHost (in_brackets text) → IsIpv6Text text
 ipv6_from_brackets text h = elim h [
-  | inl name ↦ absurd (true≢false (sym (both _ _ (list_all-from_AllPass is_name_byte (in_brackets text) name.allowed)).0))
+  | inl name ↦ absurd (no_bracket text name.allowed)
   | inr brackets ↦ subst IsIpv6Text (sym (inner-in_brackets brackets.0) ∙ ap inner (sym brackets.1) ∙ inner-in_brackets text) brackets.2
 ]
 
 pub host_of-ipv6 : (text : List ℕ) → (IsHost text → ⊥) → IsHost (in_brackets text) → host_of text ≡ Some (in_brackets text)
 unfolding host_of
-host_of-ipv6 text no h =
-    let not_host = false_from _ (host_decides text) no in
+host_of-ipv6 text plain h =
+    let not_host = false_from _ (host_decides text) plain in
     let ipv6 = (ipv6_decides text).1 (ipv6_from_brackets text h) in
     rw (not_host, ipv6)
 
 pub host_of-none : (text : List ℕ) → (IsHost text → ⊥) → (IsHost (in_brackets text) → ⊥) → host_of text ≡ None
 unfolding host_of
-host_of-none text no not_bracketed =
-    let not_host = false_from _ (host_decides text) no in
-    let not_ipv6 = false_from _ (ipv6_decides text) (λ ipv6. not_bracketed (inr (text, (refl, ipv6)))) in
+host_of-none text plain not_bracketed =
+    let not_host = false_from _ (host_decides text) plain in
+    let not_ipv6 = false_from _ (ipv6_decides text) (λ ipv6. not_bracketed (inr (text, refl, ipv6))) in
     rw (not_host, not_ipv6)
 
 kept : {A : Type 0} (p q : Bool) (x y z : A) → (if p then Some x else if q then Some y else None) ≡ Some z
@@ -125,5 +132,5 @@ pub IsAddress-host_of : (text host : List ℕ) → host_of text ≡ Some host �
 unfolding host_of
 IsAddress-host_of text host h = elim (kept (is_name text || is_in_brackets text) (is_ipv6_text text) text (in_brackets text) host h) [
   | inl found ↦ (subst IsHost found.1 ((host_decides text).0 found.0), inl (sym found.1))
-  | inr found ↦ (subst IsHost found.1 (inr (text, (refl, (ipv6_decides text).0 found.0))), inr (sym found.1))
+  | inr found ↦ (subst IsHost found.1 (inr (text, refl, (ipv6_decides text).0 found.0)), inr (sym found.1))
 ]

@@ -1,3 +1,3 @@
 pub mod Addresses
 pub mod Pairs
-pub mod Lists
+pub mod Faultless

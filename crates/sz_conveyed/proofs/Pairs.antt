@@ -1,7 +1,6 @@
 -- Pairs joined by colons, one after another and by place.
-use Rattle.std.proofs.Common.{◌≡◌, ℕ, zero, suc, ◌+◌, ◌*◌, ◌<◌, ◌==◌, Bool, true, false, if◌then◌else◌, List, [], ◌∷◌, length, Option, Some, None, option_and_then, option_map, refl, sym, ap, subst, ◌∙◌, inl, inr, arith}
-use Rattle.std.proofs.lemmas.Bool.{cases_Bool}
-use Rattle.std.proofs.lemmas.Bool.Decides.{nat_tests}
+use Rattle.std.proofs.Common.{◌≡◌, ℕ, zero, suc, ◌+◌, ◌*◌, ◌<◌, ◌==◌, Bool, true, false, if◌then◌else◌, List, [], ◌∷◌, length, Option, Some, None, IfSome, IsNone, option_and_then, option_map, refl, sym, ap, subst, ◌∙◌, arith, eq-eqb}
+use Rattle.std.proofs.lemmas.Bool.{eqb-true}
 use Rattle.std.specs.Prelude.{slice_index}
 use Rattle.hex.specs.Hex.{hex_digit_value}
 use Rattle.sz_base.specs.Encoding.{IsColonHex, IsPair}
@@ -29,11 +28,12 @@ tail_pairs n high low colon rest byte bytes h some = record {
   size = omega (arith, h.size);
   count = omega (arith, h.count);
   pairs = λ k below.
+    let one : 3 * suc k + 1 ≡ suc (suc (suc (3 * k + 1))) = omega arith in
     let at : 3 * suc k ≡ suc (suc (suc (3 * k))) = omega arith in
-    rw at at (h.pairs (suc k) (omega arith));
+    rw (one, at) at (h.pairs (suc k) (omega arith));
   colons = λ k below.
-    let at : 3 * suc k ≡ suc (suc (suc (3 * k))) = omega arith in
-    rw at at (h.colons (suc k) (omega arith));
+    let two : 3 * suc k + 2 ≡ suc (suc (suc (3 * k + 2))) = omega arith in
+    rw two at (h.colons (suc k) (omega arith));
 }
 
 forward : (bytes text : List ℕ) → 0 < length bytes → ArePairs (length bytes) text bytes → pairs_of text ≡ Some bytes
@@ -54,7 +54,7 @@ forward (byte ∷ next ∷ bytes) (high ∷ low ∷ colon ∷ rest) some h =
 pub hash_of_text-pairs : (text bytes : List ℕ) → IsColonHex text bytes → hash_of_text text ≡ Some bytes
 unfolding hash_of_text
 hash_of_text-pairs text bytes h =
-    let size : (length text == 95) ≡ true = grind (arith, nat_tests, h.size) in
+    let size : (length text == 95) ≡ true = eq-eqb (length text) 95 h.size in
     let all : ArePairs (length bytes) text bytes = rw h.count (record {
       size = omega (arith, h.size);
       count = h.count;
@@ -69,7 +69,7 @@ back_at : (colon : Bool) (first : Option ℕ) (later : Option (List ℕ)) (bytes
 back_at false first later bytes h = cc
 back_at true None later bytes h = cc
 back_at true (Some byte) None bytes h = cc
-back_at true (Some byte) (Some more) bytes h = (byte, (more, (refl, (refl, (refl, cc)))))
+back_at true (Some byte) (Some more) bytes h = (byte, more, refl, refl, refl, cc)
 
 cons_pairs : (n high low colon : ℕ) (rest : List ℕ) (byte : ℕ) (bytes : List ℕ) → IsPair high low byte → colon ≡ 58 → ArePairs n rest bytes
     → ArePairs (suc n) (high ∷ low ∷ colon ∷ rest) (byte ∷ bytes)
@@ -82,11 +82,16 @@ cons_pairs n high low colon rest byte bytes first mark h = record {
   where
     pairs_at : (k : ℕ) → k < suc n → IsPair (slice_index (high ∷ low ∷ colon ∷ rest) (3 * k)) (slice_index (high ∷ low ∷ colon ∷ rest) (3 * k + 1)) (slice_index (byte ∷ bytes) k)
     pairs_at zero below = first
-    pairs_at (suc k) below = let at : 3 * suc k ≡ suc (suc (suc (3 * k))) = omega arith in rw at (h.pairs k (omega arith))
+    pairs_at (suc k) below =
+        let one : 3 * suc k + 1 ≡ suc (suc (suc (3 * k + 1))) = omega arith in
+        let at : 3 * suc k ≡ suc (suc (suc (3 * k))) = omega arith in
+        rw (one, at) (h.pairs k (omega arith))
 
     colons_at : (k : ℕ) → k + 1 < suc n → slice_index (high ∷ low ∷ colon ∷ rest) (3 * k + 2) ≡ 58
     colons_at zero below = mark
-    colons_at (suc k) below = let at : 3 * suc k ≡ suc (suc (suc (3 * k))) = omega arith in rw at (h.colons k (omega arith))
+    colons_at (suc k) below =
+        let two : 3 * suc k + 2 ≡ suc (suc (suc (3 * k + 2))) = omega arith in
+        rw two (h.colons k (omega arith))
 
 one_pair : (high low byte : ℕ) → IsPair high low byte → ArePairs 1 (high ∷ low ∷ []) (byte ∷ [])
 one_pair high low byte first = record { size = refl; count = refl; pairs = pairs_at; colons = λ k below. absurd (omega arith) }
@@ -97,7 +102,7 @@ one_pair high low byte first = record { size = refl; count = refl; pairs = pairs
 
 last_at : (first : Option ℕ) (bytes : List ℕ) → option_map (λ byte. byte ∷ []) first ≡ Some bytes → (byte : ℕ) × (first ≡ Some byte) × (bytes ≡ byte ∷ [])
 last_at None bytes h = cc
-last_at (Some byte) bytes h = (byte, (refl, cc))
+last_at (Some byte) bytes h = (byte, refl, cc)
 
 backward : (text bytes : List ℕ) → pairs_of text ≡ Some bytes → ArePairs (length bytes) text bytes
 unfolding pairs_of
@@ -105,13 +110,13 @@ backward [] bytes h = cc
 backward (high ∷ []) bytes h = cc
 backward (high ∷ low ∷ []) bytes h =
     let last = last_at (pair_of high low) bytes h in
-    let first = IsPair-pair_of high low last.0 (hex_digit_value high) (hex_digit_value low) refl refl last.1.0 in
-    rw last.1.1 (one_pair high low last.0 first)
+    let first = IsPair-pair_of high low last.0 (hex_digit_value high) (hex_digit_value low) refl refl last.1 in
+    rw last.2 (one_pair high low last.0 first)
 backward (high ∷ low ∷ colon ∷ rest) bytes h =
     let parts = back_at (colon == 58) (pair_of high low) (pairs_of rest) bytes h in
-    let mark : colon ≡ 58 = grind (arith, nat_tests) in
-    let first = IsPair-pair_of high low parts.0 (hex_digit_value high) (hex_digit_value low) refl refl parts.1.1.1.0 in
-    rw parts.1.1.1.1.1 (cons_pairs (length parts.1.0) high low colon rest parts.0 parts.1.0 first mark (backward rest parts.1.0 parts.1.1.1.1.0))
+    let mark : colon ≡ 58 = eqb-true colon 58 parts.2 in
+    let first = IsPair-pair_of high low parts.0 (hex_digit_value high) (hex_digit_value low) refl refl parts.3 in
+    rw parts.5 (cons_pairs (length parts.1) high low colon rest parts.0 parts.1 first mark (backward rest parts.1 parts.4))
 
 sized : (test : Bool) (o : Option (List ℕ)) (bytes : List ℕ) → (if test then o else None) ≡ Some bytes → (test ≡ true) × (o ≡ Some bytes)
 sized true o bytes h = (refl, h)
@@ -122,7 +127,7 @@ pub IsColonHex-hash_of_text : (text bytes : List ℕ) → hash_of_text text ≡ 
 unfolding hash_of_text
 IsColonHex-hash_of_text text bytes h =
     let parts = sized (length text == 95) (pairs_of text) bytes h in
-    let size : length text ≡ 95 = grind (arith, nat_tests) in
+    let size : length text ≡ 95 = eqb-true (length text) 95 parts.0 in
     let all = backward text bytes parts.1 in
     let count : length bytes ≡ 32 = omega (arith, all.size) in
     record {
@@ -139,3 +144,9 @@ none_from (Some x) h = absurd (h x refl)
 -- any other text has it not
 pub hash_of_text-none : (text : List ℕ) → ((bytes : List ℕ) → IsColonHex text bytes → ⊥) → hash_of_text text ≡ None
 hash_of_text-none text h = none_from (hash_of_text text) (λ bytes e. h bytes (IsColonHex-hash_of_text text bytes e))
+
+-- what `colon_hex` answers
+pub answer-hash_of_text : (text : List ℕ) (answer : Option (List ℕ)) → IfSome answer (IsColonHex text)
+    → (IsNone answer → (bytes : List ℕ) → IsColonHex text bytes → ⊥) → answer ≡ hash_of_text text
+answer-hash_of_text text None some none = sym (hash_of_text-none text (none refl))
+answer-hash_of_text text (Some bytes) some none = sym (hash_of_text-pairs text bytes some)

@@ -1,5 +1,5 @@
 -- Onboarding information (RFC 8572 sections 2.2 and 6.3): what the device boots, is configured with and runs.
-use Rattle.std.specs.Prelude.{◌≡◌, ℕ, if◌then◌else◌, List, [], ◌∷◌, Option, Some, None, option_and_then, Ok, codes, ⊤, ⊥}
+use Rattle.std.specs.Prelude.{◌≡◌, ℕ, if◌then◌else◌, List, [], ◌∷◌, Option, Some, None, option_and_then, Ok, codes, ⊤}
 use Rattle.std.specs.Str.{bytes_eq}
 use Rattle.serde_json.specs.Data.{Data}
 use Rattle.sz_json.specs.Fault.{fault_of, first_inside, first_of}

@@ -1,5 +1,5 @@
 -- Redirect information (RFC 8572 sections 2.1 and 6.3): the bootstrap servers that the device is sent to.
-use Rattle.std.specs.Prelude.{◌≡◌, ℕ, List, [], ◌∷◌, Option, Some, None, option_and_then, unwrap_or, Ok, ⊤, ⊥}
+use Rattle.std.specs.Prelude.{◌≡◌, ℕ, List, [], ◌∷◌, Option, Some, None, option_and_then, unwrap_or, Ok, ⊤}
 use Rattle.serde_json.specs.Data.{Data, Items, no_items, item}
 use Rattle.sz_base.specs.declared.target.Target.{Target}
 use Rattle.sz_json.specs.Fault.{fault_of, first_inside, first_of, or_later}

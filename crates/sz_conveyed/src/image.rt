@@ -1,6 +1,6 @@
 //! The reader of a boot image.
 
-ghost use Rattle.std.specs.Prelude.{◌≡◌, [], ℕ, List, Option, Some, None, Ok, IfOk, IfErr, unwrap_or, option_and_then};
+ghost use Rattle.std.specs.Prelude.{◌≡◌, Option, Some, Ok, IfOk, IfErr, option_and_then};
 ghost use Rattle.std.specs.Option.{option_copied};
 ghost use Rattle.serde_json.specs.Data.{Items};
 ghost use Rattle.serde_json.specs.View.{items_view, view};
@@ -38,7 +38,7 @@ pub(crate) fn read_image(alloc: Global, value: &Value) -> Result<BootImage, Json
     Ok(BootImage {
         os_name,
         os_version,
-        uris,
+        uris: uris.unwrap_or(Texts::create(alloc)),
         hash,
     })
 }
@@ -57,17 +57,16 @@ fn short_text(alloc: Global, value: &Value, name: Name) -> Result<Option<Text>, 
     }
 }
 
-// the list of URIs, which is empty where there is none
-fn uris(alloc: Global, value: &Value) -> Result<Texts, JsonFault>
-    ensures ok { IfOk result (λ uris. (found : Option (List (List ℕ)))
-        × (optional texts_of Name.DownloadUri (view value.now) ≡ Ok found) × (uris ≡ unwrap_or found [])) }
+// the list of URIs
+fn uris(alloc: Global, value: &Value) -> Result<Option<Texts>, JsonFault>
+    ensures ok { IfOk result (λ found. optional texts_of Name.DownloadUri (view value.now) ≡ Ok found) }
     ensures refused { IfErr result (IsFault (fault_of (optional texts_of Name.DownloadUri (view value.now)))) }
 {
     let Some(member) = member(value, Name::DownloadUri)? else {
-        return Ok(Texts::create(alloc));
+        return Ok(None);
     };
     match member.as_array() {
-        Some(items) => texts(alloc, items.as_slice()),
+        Some(items) => Ok(Some(texts(alloc, items.as_slice())?)),
         None => Err(BAD_URIS),
     }
 }
@@ -140,5 +139,14 @@ fn hash_value(entry: &Value) -> Result<[u8; 32], JsonFault>
 fn in_text(text: Option<&str>) -> Option<[u8; 32]>
     ensures { result ≡ option_and_then hash_of_text (option_copied text.entry) }
 {
-    colon_hex(text?.as_bytes())
+    match text {
+        Some(text) => hash_of_text(text.as_bytes()),
+        None => None,
+    }
+}
+
+fn hash_of_text(text: &[u8]) -> Option<[u8; 32]>
+    ensures { result ≡ hash_of_text text.now }
+{
+    colon_hex(text)
 }

@@ -1,6 +1,6 @@
 //! The reader of onboarding information.
 
-ghost use Rattle.std.specs.Prelude.{◌≡◌, Option, Some, None, Ok, IfOk, IfErr, option_and_then};
+ghost use Rattle.std.specs.Prelude.{◌≡◌, Option, Some, None, Ok, IfOk, IfErr, OnOk, option_and_then};
 ghost use Rattle.std.specs.Option.{option_copied};
 ghost use Rattle.serde_json.specs.Data.{Data};
 ghost use Rattle.serde_json.specs.View.{view};
@@ -49,11 +49,14 @@ fn inside(alloc: Global, information: &Value) -> Result<Onboarding, JsonFault>
 }
 
 // the boot image, if there is one
+#[tactic(auto, using(crate::proofs::Faultless::image_fault_none, sz_json::proofs::Faults::outer_fault))]
 fn boot_image(alloc: Global, information: &Value) -> Result<Option<BootImage>, JsonFault>
     ensures ok { IfOk result (λ image. (found : Option Data)
         × (optional object_of Name.BootImage (view information.now) ≡ Ok found) × IsImageWhere found image) }
     ensures refused { IfErr result (IsFault (first_inside (optional object_of Name.BootImage (view information.now))
         image_fault_where)) }
+    ensures faultless { OnOk result (first_inside (optional object_of Name.BootImage (view information.now))
+        image_fault_where ≡ None) }
 {
     match object(information, Name::BootImage)? {
         Some(value) => Ok(Some(read_image(alloc, value)?)),

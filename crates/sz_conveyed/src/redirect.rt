@@ -44,23 +44,25 @@ fn servers<'v>(information: &'v Value) -> Result<&'v [Value], JsonFault>
     let Some(member) = member(information, Name::BootstrapServer)? else {
         return Err(BAD_LIST);
     };
-    match member.as_array() {
-        Some(servers) => not_empty(servers.as_slice()),
-        None => Err(BAD_LIST),
-    }
+    let Some(servers) = member.as_array() else {
+        return Err(BAD_LIST);
+    };
+    not_empty(servers.as_slice())
 }
 
+#[tactic(auto, using(std::proofs::lemmas::List::nil_from_length))]
 fn not_empty(servers: &[Value]) -> Result<&[Value], JsonFault>
     ensures ok { IfOk result (λ some. (some.now ≡ servers.now) × (if_some (items_view servers.now) ≡ Some (items_view servers.now))) }
     ensures refused { IfErr result (λ fault. (fault ≡ JsonFault.Member Name.BootstrapServer) × (if_some (items_view servers.now) ≡ None)) }
 {
-    match servers {
-        [] => Err(BAD_LIST),
-        [_, ..] => Ok(servers),
+    match servers.split_first() {
+        Some(_) => Ok(servers),
+        None => Err(BAD_LIST),
     }
 }
 
 // the targets of the servers, in order
+#[tactic(auto, using(crate::proofs::Faultless::server_fault_none, sz_json::proofs::Faults::first_fault))]
 fn targets(alloc: Global, servers: &[Value]) -> Result<Targets, JsonFault>
     ensures ok { IfOk result (AreServers (items_view servers.now)) }
     ensures refused { IfErr result (IsFault (servers_fault (items_view servers.now))) }

@@ -1,0 +1,3 @@
+pub mod Assertion
+pub mod Voucher
+pub mod Judgement
