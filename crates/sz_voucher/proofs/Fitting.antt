@@ -8,6 +8,7 @@ use Rattle.sz_base.specs.declared.moment.Moment.{Moment}
 use Rattle.sz_base.specs.declared.moment.Seconds.{Seconds}
 use Rattle.sz_voucher.specs.Judgement.{first_that_applies, Fits, is_other_nonce, is_past, judgement}
 use Rattle.sz_voucher.specs.declared.judgement.VoucherFault.{VoucherFault}
+use Rattle.sz_voucher.specs.declared.judgement.VoucherFault.TheVariants.{WrongSerial, Nonce, Expired}
 use Rattle.sz_voucher.specs.declared.voucher.Voucher.{Voucher}
 
 passes : (test : Bool) (fault : VoucherFault) (rules : List (Bool × VoucherFault)) → first_that_applies ((test, fault) ∷ rules) ≡ Ok tt
@@ -45,9 +46,11 @@ fitting_end (Some last) now h = grind (arith, ints)
 
 pub fits : (voucher : Voucher) (serial : List ℕ) (when : Moment) → judgement voucher serial when ≡ Ok tt → Fits voucher serial when
 fits voucher serial when h =
-    let first = passes _ _ _ h in
-    let second = passes _ _ _ first.1 in
-    let third = passes _ _ _ second.1 in
+    let last : List (Bool × VoucherFault) = (is_past voucher.expires_on when.time, Expired) ∷ [] in
+    let later : List (Bool × VoucherFault) = (is_other_nonce voucher.nonce when.nonce, Nonce) ∷ last in
+    let first = passes (not (bytes_eq voucher.serial serial)) WrongSerial later h in
+    let second = passes (is_other_nonce voucher.nonce when.nonce) Nonce last first.1 in
+    let third = passes (is_past voucher.expires_on when.time) Expired [] second.1 in
     record {
       serial_number = no_other voucher.serial serial first.0;
       nonce = nonce_fits voucher.nonce when.nonce second.0;

@@ -13,7 +13,8 @@ use crate::{Assertion, Voucher};
 use std::alloc::Global;
 use sz_base::Bytes;
 use sz_json::{
-    JsonFault, Name, Value, binary, flag, member, required_binary, required_object, required_text, required_time, time,
+    JsonFault, Name, Value, binary, flag, member, required_binary, required_object, required_text,
+    required_time, time,
 };
 
 const BAD_ASSERTION: JsonFault = JsonFault::Member {
@@ -102,7 +103,9 @@ fn nonce(alloc: Global, inside: &Value) -> Result<Option<Bytes>, JsonFault>
     ensures refused { IfErr result (IsFault (fault_of (optional nonce_of Name.Nonce (view inside.now)))) }
 {
     match binary(alloc, inside, Name::Nonce)? {
-        Some(bytes) if bytes.len() >= SHORTEST_NONCE && bytes.len() <= LONGEST_NONCE => Ok(Some(bytes)),
+        Some(bytes) if bytes.len() >= SHORTEST_NONCE && bytes.len() <= LONGEST_NONCE => Ok(Some(
+            bytes,
+        )),
         Some(_) => Err(BAD_NONCE),
         None => Ok(None),
     }

@@ -24,7 +24,8 @@ fn is_logged(voucher: &Voucher) -> bool {
         && voucher.serial.as_slice() == b"JADA123456789".as_slice()
         && voucher.pinned.as_slice() == b"foob".as_slice()
         && !voucher.revocation
-        && voucher.nonce.as_ref().is_some_and(|nonce| nonce.as_slice() == [0, 1, 2, 3, 4, 5, 6, 7].as_slice())
+        && voucher.nonce.as_ref().is_some_and(|nonce| nonce.as_slice()
+            == [0, 1, 2, 3, 4, 5, 6, 7].as_slice())
 }
 
 #[test]
@@ -88,15 +89,39 @@ fn faults_by_member(rt: HostRuntime) -> Result<(), JsonFault> {
         (9, r#","assertion":"proximity""#, None),
         (9, r#","serial-number":1"#, Some(Name::SerialNumber)),
         (9, r#","idevid-issuer":"Zm9""#, Some(Name::IdevidIssuer)),
-        (9, r#","pinned-domain-cert":"Zm9vYh==""#, Some(Name::PinnedDomainCert)),
-        (9, r#","domain-cert-revocation-checks":"true""#, Some(Name::DomainCertRevocationChecks)),
+        (
+            9,
+            r#","pinned-domain-cert":"Zm9vYh==""#,
+            Some(Name::PinnedDomainCert),
+        ),
+        (
+            9,
+            r#","domain-cert-revocation-checks":"true""#,
+            Some(Name::DomainCertRevocationChecks),
+        ),
         (9, r#","nonce":"AAECAwQFBg==""#, Some(Name::Nonce)),
-        (9, r#","nonce":"AAECAwQFBgcICQoLDA0ODxAREhMUFRYXGBkaGxwdHh8=""#, None),
-        (9, r#","nonce":"AAECAwQFBgcICQoLDA0ODxAREhMUFRYXGBkaGxwdHh8g""#, Some(Name::Nonce)),
-        (9, r#","last-renewal-date":"never""#, Some(Name::LastRenewalDate)),
+        (
+            9,
+            r#","nonce":"AAECAwQFBgcICQoLDA0ODxAREhMUFRYXGBkaGxwdHh8=""#,
+            None,
+        ),
+        (
+            9,
+            r#","nonce":"AAECAwQFBgcICQoLDA0ODxAREhMUFRYXGBkaGxwdHh8g""#,
+            Some(Name::Nonce),
+        ),
+        (
+            9,
+            r#","last-renewal-date":"never""#,
+            Some(Name::LastRenewalDate),
+        ),
         (0, r#","assertion":"""#, Some(Name::CreatedOn)),
     ] {
-        assert_eq!(rt; fault(rt.alloc(), without, more)?, want, "without {without}, with {more}");
+        assert_eq!(rt;
+            fault(rt.alloc(), without, more)?,
+            want,
+            "without {without}, with {more}"
+        );
     }
     Ok(())
 }
@@ -143,9 +168,27 @@ fn judged(rt: HostRuntime) -> Result<(), BaseFault> {
         (b"A1", Some(5), None, Some(DRAWN), Ok(())),
         (b"A1", Some(4), None, None, Err(VoucherFault::Expired)),
         (b"A1", None, Some(&DRAWN[..]), Some(DRAWN), Ok(())),
-        (b"A1", Some(4), Some(&DRAWN[..]), None, Err(VoucherFault::Nonce)),
-        (b"A1", None, Some(&DRAWN[..15]), Some(DRAWN), Err(VoucherFault::Nonce)),
-        (b"A2", Some(4), Some(&DRAWN[..]), None, Err(VoucherFault::WrongSerial)),
+        (
+            b"A1",
+            Some(4),
+            Some(&DRAWN[..]),
+            None,
+            Err(VoucherFault::Nonce),
+        ),
+        (
+            b"A1",
+            None,
+            Some(&DRAWN[..15]),
+            Some(DRAWN),
+            Err(VoucherFault::Nonce),
+        ),
+        (
+            b"A2",
+            Some(4),
+            Some(&DRAWN[..]),
+            None,
+            Err(VoucherFault::WrongSerial),
+        ),
         (b"A12", None, None, None, Err(VoucherFault::WrongSerial)),
     ] {
         let voucher = voucher(rt.alloc(), end, nonce)?;

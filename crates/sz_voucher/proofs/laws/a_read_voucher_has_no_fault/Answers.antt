@@ -1,4 +1,4 @@
-use Rattle.sz_voucher.proofs.Reading.{one_voucher, voucher_fault_none}
+use Rattle.sz_voucher.proofs.OneReading.{one_voucher, voucher_fault_none}
 use Rattle.sz_voucher.proofs.laws.a_read_voucher_has_no_fault.Goals as goal
 
 pub returns-clause-no_fault : goal.returns-clause-no_fault

@@ -17,7 +17,7 @@ same_parts : (voucher : Voucher) (expires_on : Option Seconds) (serial pinned : 
     → voucher.expires_on ≡ expires_on → voucher.serial ≡ serial → voucher.pinned ≡ pinned → voucher.revocation ≡ revocation → voucher.nonce ≡ nonce → voucher.assertion ≡ assertion
     → voucher.created_on ≡ created_on
     → voucher ≡ record { expires_on = expires_on; serial = serial; pinned = pinned; revocation = revocation; nonce = nonce; assertion = assertion; created_on = created_on }
-same_parts voucher expires_on serial pinned revocation nonce assertion created_on e s p r n a c = rw (← e, ← s, ← p, ← r, ← n, ← a, ← c) refl
+same_parts voucher expires_on serial pinned revocation drawn assertion created_on e s p r n a c = rw (← e, ← s, ← p, ← r, ← n, ← a, ← c) refl
 
 same_members : (inside : Data) (voucher other : Voucher) → HasMembers inside voucher → HasMembers inside other → voucher ≡ other
 same_members inside voucher other h g =
