@@ -1,6 +1,6 @@
 -- The tests of an address are the forms of hosts.
 use Rattle.std.proofs.Common.{◌≡◌, ℕ, ◌+◌, ◌-◌, ◌≤◌, ◌&&◌, ◌||◌, Bool, true, false, if◌then◌else◌, List, [], ◌∷◌, ◌++◌, length, take, drop, Option, Some, None, nat_le, refl, sym, ap, subst, ◌∙◌, inl, inr, arith, codes, length-append}
-use Rattle.std.proofs.lemmas.Bool.{cases_Bool, true≢false}
+use Rattle.std.proofs.lemmas.Bool.{cases_Bool, eqb-true, true≢false}
 use Rattle.std.proofs.lemmas.Bool.Decides.{nat_tests}
 use Rattle.std.proofs.lemmas.List.Sums.{AllPass-from_list_all, list_all-from_AllPass}
 use Rattle.std.proofs.lemmas.Slice.Eq.{bytes_eq-Decides}
@@ -25,19 +25,20 @@ passes m n h = grind (arith, nat_tests)
 
 name_decides : (text : List ℕ) → Decides (is_name text) (IsName text)
 name_decides text = (
-    λ h.
+  λ h.
       let some = both _ _ h in
       let most = both _ _ some.1 in
       record { some = at_most 1 (length text) some.0; most = at_most (length text) 255 most.0; allowed = AllPass-from_list_all is_name_byte text most.1 },
-    λ h.
+  λ h.
       let some = passes 1 (length text) h.some in
       let most = passes (length text) 255 h.most in
       let all = list_all-from_AllPass is_name_byte text h.allowed in
-      rw (some, most, all))
+      rw (some, most, all),
+)
 
 ipv6_decides : (text : List ℕ) → Decides (is_ipv6_text text) (IsIpv6Text text)
 ipv6_decides text = (
-    λ h.
+  λ h.
       let some = both _ _ h in
       let most = both _ _ some.1 in
       let colons = both _ _ most.1 in
@@ -47,12 +48,13 @@ ipv6_decides text = (
         allowed = AllPass-from_list_all is_ipv6_byte text colons.0;
         two_colons = at_most 2 (count_by is_colon text) colons.1;
       },
-    λ h.
+  λ h.
       let some = passes 2 (length text) h.some in
       let most = passes (length text) 45 h.most in
       let all = list_all-from_AllPass is_ipv6_byte text h.allowed in
       let colons = passes 2 (count_by is_colon text) h.two_colons in
-      rw (some, most, all, colons))
+      rw (some, most, all, colons),
+)
 
 inner-in_brackets : (text : List ℕ) → inner (in_brackets text) ≡ text
 inner-in_brackets text =
@@ -61,15 +63,16 @@ inner-in_brackets text =
 
 brackets_decide : (text : List ℕ) → Decides (is_in_brackets text) (IsInBrackets text)
 brackets_decide text = (
-    λ h.
+  λ h.
       let parts = both _ _ h in
       (inner text, (bytes_eq-Decides text (in_brackets (inner text))).0 parts.0, (ipv6_decides (inner text)).0 parts.1),
-    λ h.
+  λ h.
       let same : inner text ≡ h.0 = ap inner h.1 ∙ inner-in_brackets h.0 in
       let spelled : text ≡ in_brackets (inner text) = h.1 ∙ ap in_brackets (sym same) in
       let equal = (bytes_eq-Decides text (in_brackets (inner text))).1 spelled in
       let ipv6 = (ipv6_decides (inner text)).1 (subst IsIpv6Text (sym same) h.2) in
-      rw (equal, ipv6))
+      rw (equal, ipv6),
+)
 
 either : (p q : Bool) → (p || q) ≡ true → (p ≡ true) ⊎ (q ≡ true)
 either true q h = inl refl
@@ -77,14 +80,15 @@ either false q h = inr h
 
 host_decides : (text : List ℕ) → Decides (is_name text || is_in_brackets text) (IsHost text)
 host_decides text = (
-    λ h. elim (either (is_name text) (is_in_brackets text) h) [
-      | inl name ↦ inl ((name_decides text).0 name)
-      | inr brackets ↦ inr ((brackets_decide text).0 brackets)
-    ],
-    λ h. elim h [
-      | inl name ↦ rw ((name_decides text).1 name)
-      | inr brackets ↦ elim (cases_Bool (is_name text)) [ inl t ↦ rw t | inr f ↦ rw (f, (brackets_decide text).1 brackets) ]
-    ])
+  λ h. elim (either (is_name text) (is_in_brackets text) h) [
+    | inl name ↦ inl ((name_decides text).0 name)
+    | inr brackets ↦ inr ((brackets_decide text).0 brackets)
+  ],
+  λ h. elim h [
+    | inl name ↦ rw ((name_decides text).1 name)
+    | inr brackets ↦ elim (cases_Bool (is_name text)) [ inl t ↦ rw t | inr f ↦ rw (f, (brackets_decide text).1 brackets) ]
+  ],
+)
 
 false_from : {P : Type 0} (test : Bool) → Decides test P → (P → ⊥) → test ≡ false
 false_from true d h = absurd (h (d.0 refl))
@@ -120,6 +124,33 @@ host_of-none text plain not_bracketed =
     let not_host = false_from _ (host_decides text) plain in
     let not_ipv6 = false_from _ (ipv6_decides text) (λ ipv6. not_bracketed (inr (text, refl, ipv6))) in
     rw (not_host, not_ipv6)
+
+no_colons : (text : List ℕ) → list_all is_name_byte text ≡ true → count_by is_colon text ≡ 0
+no_colons [] h = refl
+no_colons (byte ∷ text) h =
+    let parts = both (is_name_byte byte) (list_all is_name_byte text) h in
+    let rest = no_colons text parts.1 in
+    elim (cases_Bool (is_colon byte)) [
+      | inl colon ↦ let here : byte ≡ 58 = eqb-true byte 58 colon in absurd (true≢false (sym parts.0 ∙ ap is_name_byte here))
+      | inr other ↦ rw other rest
+    ]
+
+no_mark : (text : List ℕ) → AllPass is_ipv6_byte (in_brackets text) → ⊥
+no_mark text h =
+    let all : list_all is_ipv6_byte (in_brackets text) ≡ true = list_all-from_AllPass is_ipv6_byte (in_brackets text) h in
+    cc
+
+no_host : (text : List ℕ) → IsIpv6Text text → IsHost text → ⊥
+no_host text ipv6 h = elim h [
+  | inl name ↦
+      let none = no_colons text (list_all-from_AllPass is_name_byte text name.allowed) in
+      omega (arith, ipv6.two_colons, none)
+  | inr brackets ↦ no_mark brackets.0 (subst (AllPass is_ipv6_byte) brackets.1 ipv6.allowed)
+]
+
+-- an IPv6 text names the host of its brackets
+pub host_of-ipv6_text : (text : List ℕ) → IsIpv6Text text → host_of text ≡ Some (in_brackets text)
+host_of-ipv6_text text ipv6 = host_of-ipv6 text (no_host text ipv6) (inr (text, refl, ipv6))
 
 kept : {A : Type 0} (p q : Bool) (x y z : A) → (if p then Some x else if q then Some y else None) ≡ Some z
     → ((p ≡ true) × (x ≡ z)) ⊎ ((q ≡ true) × (y ≡ z))

@@ -6,10 +6,13 @@ use Rattle.sz_json.specs.Fault.{fault_of}
 use Rattle.sz_json.specs.Member.{required}
 use Rattle.sz_json.specs.declared.name.Name.{Name}
 use Rattle.sz_json.specs.declared.name.Name.TheVariants as name
+use Rattle.sz_conveyed.specs.Conveyed.{conveyed_fault, IsConveyed}
 use Rattle.sz_conveyed.specs.Hash.{hash_of, is_sha256}
 use Rattle.sz_conveyed.specs.Image.{hash_fault, hash_fault_where, image_fault, IsBootImage, IsHash, NamesHash, NamesHashWhere}
 use Rattle.sz_conveyed.specs.Onboarding.{image_fault_where, information_fault, IsImageWhere, IsInformation, IsOnboarding, onboarding_fault}
 use Rattle.sz_conveyed.specs.Redirect.{AreServers, IsRedirect, IsServer, redirect_fault, server_fault, servers_fault}
+use Rattle.sz_conveyed.specs.declared.conveyed.Conveyed.{Conveyed}
+use Rattle.sz_conveyed.specs.declared.conveyed.Conveyed.TheVariants.{Redirect, Onboarding as OnboardingInformation}
 use Rattle.sz_conveyed.specs.declared.onboarding.BootImage.{BootImage}
 use Rattle.sz_conveyed.specs.declared.onboarding.Onboarding.{Onboarding}
 
@@ -54,3 +57,7 @@ information_fault_none information onboarding h =
 
 pub onboarding_fault_none : (value : Data) (onboarding : Onboarding) → IsOnboarding value onboarding → onboarding_fault value ≡ None
 onboarding_fault_none value onboarding h = rw h.top (information_fault_none h.information onboarding h.inside)
+
+pub conveyed_fault_none : (value : Data) (conveyed : Conveyed) → IsConveyed value conveyed → conveyed_fault value ≡ None
+conveyed_fault_none value (Redirect targets) h = rw h.0 (redirect_fault_none value targets h.1)
+conveyed_fault_none value (OnboardingInformation onboarding) h = rw h.0 (onboarding_fault_none value onboarding h.1)

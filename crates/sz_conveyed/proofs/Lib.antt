@@ -1,3 +1,6 @@
 pub mod Addresses
 pub mod Pairs
 pub mod Faultless
+pub mod OneReading
+pub mod Texts
+pub mod Plain

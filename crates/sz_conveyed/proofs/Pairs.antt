@@ -28,12 +28,12 @@ tail_pairs n high low colon rest byte bytes h some = record {
   size = omega (arith, h.size);
   count = omega (arith, h.count);
   pairs = λ k below.
-    let one : 3 * suc k + 1 ≡ suc (suc (suc (3 * k + 1))) = omega arith in
-    let at : 3 * suc k ≡ suc (suc (suc (3 * k))) = omega arith in
-    rw (one, at) at (h.pairs (suc k) (omega arith));
+      let one : 3 * suc k + 1 ≡ suc (suc (suc (3 * k + 1))) = omega arith in
+      let at : 3 * suc k ≡ suc (suc (suc (3 * k))) = omega arith in
+      rw (one, at) at (h.pairs (suc k) (omega arith));
   colons = λ k below.
-    let two : 3 * suc k + 2 ≡ suc (suc (suc (3 * k + 2))) = omega arith in
-    rw two at (h.colons (suc k) (omega arith));
+      let two : 3 * suc k + 2 ≡ suc (suc (suc (3 * k + 2))) = omega arith in
+      rw two at (h.colons (suc k) (omega arith));
 }
 
 forward : (bytes text : List ℕ) → 0 < length bytes → ArePairs (length bytes) text bytes → pairs_of text ≡ Some bytes

@@ -4,3 +4,4 @@ pub mod Redirect
 pub mod Image
 pub mod Onboarding
 pub mod Conveyed
+pub mod Written

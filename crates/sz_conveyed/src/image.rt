@@ -52,7 +52,10 @@ fn short_text(alloc: Global, value: &Value, name: Name) -> Result<Option<Text>, 
         return Ok(None);
     };
     match member.as_str() {
-        Some(text) if text.len() <= LONGEST_NAME => Ok(Some(Text::from_slice(alloc, text.as_bytes())?)),
+        Some(text) if text.len() <= LONGEST_NAME => Ok(Some(Text::from_slice(
+            alloc,
+            text.as_bytes(),
+        )?)),
         _ => Err(JsonFault::Member { name }),
     }
 }

@@ -1,5 +1,5 @@
 -- The first fault of a table, at a reader's early return.
-use Rattle.std.proofs.Common.{◌≡◌, List, [], ◌∷◌, Option, Some, None, Result, Ok, Err, refl}
+use Rattle.std.proofs.Common.{Option, Some, None, Result, Ok, Err}
 use Rattle.sz_json.specs.Fault.{fault_of, first_inside, or_later, IsFault}
 use Rattle.sz_json.specs.declared.name.Name.{Name}
 use Rattle.sz_json.specs.declared.fault.JsonFault.{JsonFault}

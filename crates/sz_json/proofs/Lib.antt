@@ -1,3 +1,4 @@
 pub mod Base64
 pub mod Faults
 pub mod Objects
+pub mod Readings

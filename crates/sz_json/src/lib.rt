@@ -8,6 +8,7 @@ mod fault;
 mod laws;
 mod members;
 mod name;
+mod parts;
 mod times;
 mod writing;
 
@@ -15,10 +16,11 @@ pub use document::{read, write};
 pub use fault::JsonFault;
 pub use laws::binary_is_base64;
 pub use members::{
-    binary, flag, list, member, object, port, required_binary, required_object, required_string, required_text, string,
-    text,
+    binary, flag, list, member, object, port, required_binary, required_object, required_string,
+    required_text, string, text,
 };
 pub use name::Name;
+pub use parts::{as_str, optional_bytes, optional_str};
 pub use serde_json::Value;
 pub use times::{date_time, required_time, time};
 pub use writing::Object;

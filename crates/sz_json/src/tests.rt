@@ -1,8 +1,9 @@
 //! The readers and the writer on worked texts.
 
 use crate::{
-    JsonFault, Name, Object, Value, binary, date_time, flag, list, member, object, port, read, required_binary,
-    required_object, required_string, required_text, required_time, string, text, time, write,
+    JsonFault, Name, Object, Value, binary, date_time, flag, list, member, object, port, read,
+    required_binary, required_object, required_string, required_text, required_time, string, text,
+    time, write,
 };
 use std::alloc::Global;
 use sz_base::{OutOfMemory, Seconds};

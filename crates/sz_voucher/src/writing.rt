@@ -1,0 +1,151 @@
+//! The writer of a voucher.
+
+ghost use Rattle.std.specs.Prelude.{◌≡◌, ◌+◌, ◌<◌, ◌++◌, List, ℕ, Option, option_map, string_bytes, IfOk, IfSome, IsUtf8, OnOk};
+ghost use Rattle.std.specs.Option.{option_copied};
+ghost use Rattle.jiff_core.specs.Calendar.{IsYear};
+ghost use Rattle.serde_json.specs.View.{view};
+ghost use Rattle.serde_json.specs.Written.{compact_text};
+ghost use Rattle.sz_calendar.specs.DateTime.{civil_time};
+ghost use Rattle.sz_voucher.specs.Assertion.{assertion_text};
+ghost use Rattle.sz_voucher.specs.Written.{AreDateTexts, civil_text, clock_text, day_text, four_digits, IsDateText, IsInstant, members_value, two_digits, voucher_value, year_text};
+
+use crate::{Assertion, Voucher};
+use std::alloc::Global;
+use sz_base::{Bytes, OutOfMemory, Seconds};
+use sz_calendar::DateTime;
+use sz_json::{Name, Object, Value, as_str, optional_bytes, write};
+
+/// Writes a voucher as compact JSON, with the members of each object in the byte order of their names.
+pub fn write_voucher(alloc: Global, voucher: &Voucher) -> Result<Bytes, OutOfMemory>
+    requires created_on { IsInstant voucher.now.created_on }
+    requires expires_on { IfSome voucher.now.expires_on IsInstant }
+    requires serial { IsUtf8 voucher.now.serial }
+    ensures written { IfOk result (λ bytes. (created : List ℕ) × (end : Option (List ℕ))
+        × IsDateText voucher.now.created_on created × AreDateTexts voucher.now.expires_on end
+        × (bytes ≡ compact_text (voucher_value voucher.now created end))) }
+{
+    let created = date_text(alloc, voucher.created_on)?;
+    let end = end_text(alloc, voucher.expires_on)?;
+    let mut object = Object::create(alloc);
+    object.put(alloc, Name::Voucher, members(alloc, voucher, created.as_str(), as_str_where(&end))?)?;
+    write(alloc, &object.into_value())
+}
+
+fn members(
+    alloc: Global,
+    voucher: &Voucher,
+    created: &str,
+    end: Option<&str>,
+) -> Result<Value, OutOfMemory>
+    requires { IsUtf8 voucher.now.serial }
+    ensures { IfOk result (λ value. view value ≡ members_value voucher.now created.now (option_copied end.entry)) }
+{
+    let mut object = Object::create(alloc);
+    object.put_text(alloc, Name::CreatedOn, created)?;
+    object.put_optional_text(alloc, Name::ExpiresOn, end)?;
+    object.put_text(alloc, Name::Assertion, assertion(voucher.assertion))?;
+    object.put_text(alloc, Name::SerialNumber, as_str(&voucher.serial))?;
+    object.put_binary(alloc, Name::PinnedDomainCert, voucher.pinned.as_slice())?;
+    object.put_flag(alloc, Name::DomainCertRevocationChecks, voucher.revocation)?;
+    object.put_optional_binary(alloc, Name::Nonce, optional_bytes(&voucher.nonce))?;
+    Ok(object.into_value())
+}
+
+fn assertion(assertion: Assertion) -> &'static str
+    ensures { result.now ≡ assertion_text assertion }
+{
+    match assertion {
+        Assertion::Verified => "verified",
+        Assertion::Logged => "logged",
+        Assertion::Proximity => "proximity",
+    }
+}
+
+fn end_text(alloc: Global, end: Option<Seconds>) -> Result<Option<String>, OutOfMemory>
+    requires { IfSome end IsInstant }
+    ensures { IfOk result (λ text. AreDateTexts end (option_map string_bytes text)) }
+{
+    match end {
+        Some(seconds) => Ok(Some(date_text(alloc, seconds)?)),
+        None => Ok(None),
+    }
+}
+
+fn as_str_where(text: &Option<String>) -> Option<&str>
+    ensures { option_copied result ≡ option_map string_bytes text.now }
+{
+    match text {
+        Some(text) => Some(text.as_str()),
+        None => None,
+    }
+}
+
+// the date and the time of day at the second, in UTC
+fn date_text(alloc: Global, seconds: Seconds) -> Result<String, OutOfMemory>
+    requires { IsInstant seconds }
+    ensures { IfOk result (λ text. IsDateText seconds (string_bytes text)) }
+{
+    let Some(time) = DateTime::from_unix_seconds(seconds.0) else {
+        unreachable!();
+    };
+    let mut text = String::new(alloc);
+    push_day(&mut text, &time)?;
+    text.push('T')?;
+    push_clock(&mut text, &time)?;
+    text.push('Z')?;
+    Ok(text)
+}
+
+fn push_day(text: &mut String, time: &DateTime) -> Result<(), OutOfMemory>
+    requires year { IsYear time.now.year }
+    requires month { time.now.month < 100 }
+    requires day { time.now.day < 100 }
+    ensures { OnOk result (string_bytes text.new ≡ string_bytes text.old ++ day_text (civil_time time.now)) }
+{
+    push_year(text, time.year)?;
+    text.push('-')?;
+    push_two(text, u16::from(time.month))?;
+    text.push('-')?;
+    push_two(text, u16::from(time.day))
+}
+
+fn push_clock(text: &mut String, time: &DateTime) -> Result<(), OutOfMemory>
+    requires hour { time.now.hour < 100 }
+    requires minute { time.now.minute < 100 }
+    requires second { time.now.second < 100 }
+    ensures { OnOk result (string_bytes text.new ≡ string_bytes text.old ++ clock_text (civil_time time.now)) }
+{
+    push_two(text, u16::from(time.hour))?;
+    text.push(':')?;
+    push_two(text, u16::from(time.minute))?;
+    text.push(':')?;
+    push_two(text, u16::from(time.second))
+}
+
+fn push_year(text: &mut String, year: i16) -> Result<(), OutOfMemory>
+    requires { IsYear year }
+    ensures { OnOk result (string_bytes text.new ≡ string_bytes text.old ++ year_text year) }
+{
+    if year < 0 {
+        text.push_str("-00")?;
+    }
+    let number = year.unsigned_abs();
+    push_two(text, number / 100)?;
+    push_two(text, number % 100)
+}
+
+fn push_two(text: &mut String, number: u16) -> Result<(), OutOfMemory>
+    requires { number < 100 }
+    ensures { OnOk result (string_bytes text.new ≡ string_bytes text.old ++ two_digits number) }
+{
+    text.push(digit(number / 10))?;
+    text.push(digit(number % 10))?;
+    Ok(())
+}
+
+fn digit(number: u16) -> char
+    requires { number < 10 }
+    ensures { result ≡ 48 + number }
+{
+    (b'0' + number as u8) as char
+}
