@@ -22,7 +22,7 @@ abbrev pub pair_text : ℕ → List ℕ
 pair_text byte = lower_digit (byte / 16) ∷ lower_digit (byte % 16) ∷ []
 
 -- pairs, with a colon before each but the first
-unfoldable pub colon_text : List ℕ → List ℕ
+abbrev pub colon_text : List ℕ → List ℕ
 colon_text bytes = pair_text (slice_index bytes 0) ++ flat_map (λ byte. 58 ∷ pair_text byte) (drop 1 bytes)
 
 -- a list with one entry, of SHA-256

@@ -1,8 +1,10 @@
 //! Conveyed information as texts: the examples of RFC 8572, and one case a member and kind of fault.
 
-use crate::{Conveyed, Handling, Onboarding, is_onboarding};
+use crate::{
+    BootImage, Conveyed, Handling, Onboarding, is_onboarding, write_onboarding, write_redirect,
+};
 use std::alloc::Global;
-use sz_base::{Bytes, Targets, Text};
+use sz_base::{BaseFault, Bytes, Target, Targets, Text, Texts};
 use sz_json::{JsonFault, Name};
 
 // the examples of RFC 8572 section 3 as far as this profile takes them: bytes in base64, a hash on one line
@@ -214,4 +216,36 @@ fn faults_of_the_whole(rt: HostRuntime) {
         let want = Err(JsonFault::Member { name: Name::Json });
         assert_eq!(rt; is_onboarding(rt.alloc(), content), want, "at {content:?}");
     }
+}
+
+fn written(alloc: Global) -> Result<bool, BaseFault> {
+    let image = BootImage {
+        os_name: None,
+        os_version: None,
+        uris: Texts::create(alloc),
+        hash: Some(HASH),
+    };
+    let onboarding = Onboarding {
+        image: Some(image),
+        handling: Handling::Replace,
+        pre: Some(Bytes::create(alloc)),
+        configuration: Some(Bytes::from_slice(alloc, b"foob")?),
+        post: None,
+    };
+    let text = write_onboarding(alloc, &onboarding)?;
+    let mut targets = Targets::create(alloc);
+    targets.push(Target::read(alloc, b"[::1]:8443")?)?;
+    let redirect = write_redirect(alloc, &targets)?;
+    Ok(text.as_slice() == WRITTEN && redirect.as_slice() == WRITTEN_REDIRECT)
+}
+
+const WRITTEN: &[u8] =
+    br#"{"ietf-sztp-conveyed-info:onboarding-information":{"boot-image":{"image-verification":[{"hash-algorithm":"ietf-sztp-conveyed-info:sha-256","hash-value":"ba:ec:cf:a5:67:82:b4:10:77:c6:67:a6:22:ab:7d:50:04:a7:8b:8f:0e:db:02:8b:f4:75:55:fb:c1:13:b2:33"}]},"configuration":"Zm9vYg==","configuration-handling":"replace","pre-configuration-script":""}}"#;
+
+const WRITTEN_REDIRECT: &[u8] =
+    br#"{"ietf-sztp-conveyed-info:redirect-information":{"bootstrap-server":[{"address":"[::1]","port":8443}]}}"#;
+
+#[test]
+fn what_is_written(rt: HostRuntime) {
+    assert_eq!(rt; written(rt.alloc()), Ok(true));
 }

@@ -1,7 +1,7 @@
 //! The writers of conveyed information.
 
-ghost use Rattle.std.specs.Prelude.{◌≡◌, ◌<◌, ◌++◌, map, option_map, string_bytes, IfOk, IfSome, IsUtf8, OnOk};
-ghost use Rattle.std.specs.List.{All};
+ghost use Rattle.std.specs.Prelude.{◌≡◌, ◌<◌, ◌++◌, ◌∷◌, map, option_map, string_bytes, IfOk, IfSome, IsUtf8, OnOk};
+ghost use Rattle.std.specs.List.{All, flat_map};
 ghost use Rattle.std.specs.Option.{option_copied};
 ghost use Rattle.serde_json.specs.Data.{array};
 ghost use Rattle.serde_json.specs.View.{items_of, view};
@@ -11,7 +11,7 @@ ghost use Rattle.sz_conveyed.specs.Written.{AreTexts, colon_text, image_value, i
 
 use crate::{BootImage, Handling, Onboarding};
 use std::alloc::Global;
-use sz_base::{Bytes, OutOfMemory, Target, Targets, Texts};
+use sz_base::{Bytes, OutOfMemory, Target, Targets, Text, Texts};
 use sz_json::{Name, Object, Value, as_str, optional_bytes, optional_str, write};
 
 /// Writes onboarding information as compact JSON, with the members of each object in the byte order of their names.
@@ -127,17 +127,17 @@ fn uris(alloc: Global, uris: &Texts) -> Result<Option<Value>, OutOfMemory>
     ensures { IfOk result (λ value. option_map view value ≡ uris_value uris.now) }
 {
     match uris.as_slice().split_first() {
-        Some(_) => Ok(Some(texts(alloc, uris)?)),
+        Some(_) => Ok(Some(texts(alloc, uris.as_slice())?)),
         None => Ok(None),
     }
 }
 
-fn texts(alloc: Global, texts: &Texts) -> Result<Value, OutOfMemory>
+fn texts(alloc: Global, texts: &[Text]) -> Result<Value, OutOfMemory>
     requires { All IsUtf8 texts.now }
     ensures { IfOk result (λ value. view value ≡ texts_value texts.now) }
 {
     let mut items = Vec::new(alloc);
-    for text in texts.as_slice() {
+    for text in texts {
         items.push(Value::try_from_str(alloc, as_str(text))?)?;
     }
     Ok(Value::from(items))
@@ -169,13 +169,22 @@ fn entry(alloc: Global, hash: &[u8; 32]) -> Result<Value, OutOfMemory>
 }
 
 // the hash as pairs in lower case, joined by colons
-#[tactic(auto, unfolding(crate::specs::Written::colon_text))]
 fn pairs(alloc: Global, hash: &[u8; 32]) -> Result<String, OutOfMemory>
     ensures { IfOk result (λ text. string_bytes text ≡ colon_text hash.now) }
 {
+    match hash.split_first() {
+        Some((first, rest)) => joined(alloc, *first, rest),
+        None => unreachable!(),
+    }
+}
+
+fn joined(alloc: Global, first: u8, rest: &[u8]) -> Result<String, OutOfMemory>
+    ensures { IfOk result (λ text. string_bytes text
+        ≡ pair_text first ++ flat_map (λ byte. 58 ∷ pair_text byte) rest.now) }
+{
     let mut text = String::new(alloc);
-    push_pair(&mut text, hash[0])?;
-    for byte in &hash[1..] {
+    push_pair(&mut text, first)?;
+    for byte in rest {
         text.push(':')?;
         push_pair(&mut text, *byte)?;
     }

@@ -1,2 +1,4 @@
 pub mod Fitting
 pub mod OneReading
+pub mod Plain
+pub mod Dates

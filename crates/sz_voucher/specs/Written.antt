@@ -1,11 +1,12 @@
 -- What is written of a voucher: its members in the byte order of their names. Dates are in UTC; the certificate's issuer and
 -- the date of renewal are never written.
-use Rattle.std.specs.Prelude.{◌≡◌, ℕ, suc, ◌/◌, ◌%◌, List, [], ◌∷◌, ◌++◌, Option, Some, None, option_map, codes, ℤ, pos, negsuc, ◌*ℤ◌, ⊤, ⊥}
+use Rattle.std.specs.Prelude.{◌≡◌, ℕ, ◌+◌, ◌/◌, ◌%◌, List, [], ◌∷◌, ◌++◌, Option, Some, None, option_map, codes, ℤ, pos, int_lt, unsigned_abs, if◌then◌else◌, ◌*ℤ◌, ⊤}
 use Rattle.jiff_core.specs.Timestamp.{IsTimestampNanos}
 use Rattle.serde_json.specs.Data.{Data, boolean, object, string}
 use Rattle.sz_base.specs.declared.moment.Seconds.{Seconds}
 use Rattle.sz_calendar.specs.CivilTime.{CivilTime, IsTimeAt}
 use Rattle.sz_json.specs.Object.{binary_value, members_of}
+use Rattle.sz_json.specs.declared.name.Name.{Name}
 use Rattle.sz_json.specs.declared.name.Name.TheVariants as name
 use Rattle.sz_voucher.specs.Assertion.{assertion_text}
 use Rattle.sz_voucher.specs.declared.voucher.Voucher.{Voucher}
@@ -20,9 +21,11 @@ two_digits n = (48 + n / 10) ∷ (48 + n % 10) ∷ []
 abbrev pub four_digits : ℕ → List ℕ
 four_digits n = two_digits (n / 100) ++ two_digits (n % 100)
 
+abbrev pub sign_text : ℤ → List ℕ
+sign_text year = if int_lt year (pos 0) then codes "-00" else []
+
 abbrev pub year_text : ℤ → List ℕ
-year_text (pos n) = four_digits n
-year_text (negsuc n) = codes "-00" ++ four_digits (suc n)
+year_text year = sign_text year ++ four_digits (unsigned_abs year)
 
 -- `YYYY-MM-DD`
 abbrev pub day_text : CivilTime → List ℕ
@@ -52,8 +55,8 @@ AreDateTexts (Some seconds) (Some text) = IsDateText seconds text
 
 -- ---- the value, with the texts of its dates
 
-abbrev pub members_value : Voucher → List ℕ → Option (List ℕ) → Data
-members_value voucher created end = object (members_of (
+abbrev pub inner_members : Voucher → List ℕ → Option (List ℕ) → List (Name × Option Data)
+inner_members voucher created end =
     (name.CreatedOn, Some (string created))
     ∷ (name.ExpiresOn, option_map string end)
     ∷ (name.Assertion, Some (string (assertion_text voucher.assertion)))
@@ -61,7 +64,13 @@ members_value voucher created end = object (members_of (
     ∷ (name.PinnedDomainCert, Some (binary_value voucher.pinned))
     ∷ (name.DomainCertRevocationChecks, Some (boolean voucher.revocation))
     ∷ (name.Nonce, option_map binary_value voucher.nonce)
-    ∷ []))
+    ∷ []
+
+abbrev pub members_value : Voucher → List ℕ → Option (List ℕ) → Data
+members_value voucher created end = object (members_of (inner_members voucher created end))
+
+abbrev pub outer_members : Voucher → List ℕ → Option (List ℕ) → List (Name × Option Data)
+outer_members voucher created end = (name.Voucher, Some (members_value voucher created end)) ∷ []
 
 abbrev pub voucher_value : Voucher → List ℕ → Option (List ℕ) → Data
-voucher_value voucher created end = object (members_of ((name.Voucher, Some (members_value voucher created end)) ∷ []))
+voucher_value voucher created end = object (members_of (outer_members voucher created end))

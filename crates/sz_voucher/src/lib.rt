@@ -6,10 +6,12 @@ mod judgement;
 mod laws;
 mod reading;
 mod voucher;
+mod writing;
 
 pub use judgement::{VoucherFault, judge};
 pub use laws::{a_read_voucher_has_no_fault, judged_vouchers_fit};
 pub use voucher::{Assertion, LONGEST_NONCE, SHORTEST_NONCE, Voucher};
+pub use writing::write_voucher;
 
 #[cfg(test)]
 mod tests;

@@ -1,13 +1,12 @@
 //! The writer of a voucher.
 
-ghost use Rattle.std.specs.Prelude.{◌≡◌, ◌+◌, ◌<◌, ◌++◌, List, ℕ, Option, option_map, string_bytes, IfOk, IfSome, IsUtf8, OnOk};
+ghost use Rattle.std.specs.Prelude.{◌≡◌, ◌<◌, ◌++◌, List, ℕ, Option, neg_ℤ, pos, ◌≤ℤ◌, option_map, string_bytes, IfOk, IfSome, IsUtf8, OnOk};
 ghost use Rattle.std.specs.Option.{option_copied};
-ghost use Rattle.jiff_core.specs.Calendar.{IsYear};
 ghost use Rattle.serde_json.specs.View.{view};
 ghost use Rattle.serde_json.specs.Written.{compact_text};
 ghost use Rattle.sz_calendar.specs.DateTime.{civil_time};
 ghost use Rattle.sz_voucher.specs.Assertion.{assertion_text};
-ghost use Rattle.sz_voucher.specs.Written.{AreDateTexts, civil_text, clock_text, day_text, four_digits, IsDateText, IsInstant, members_value, two_digits, voucher_value, year_text};
+ghost use Rattle.sz_voucher.specs.Written.{AreDateTexts, civil_text, clock_text, day_text, four_digits, IsDateText, IsInstant, members_value, sign_text, two_digits, voucher_value};
 
 use crate::{Assertion, Voucher};
 use std::alloc::Global;
@@ -20,15 +19,30 @@ pub fn write_voucher(alloc: Global, voucher: &Voucher) -> Result<Bytes, OutOfMem
     requires created_on { IsInstant voucher.now.created_on }
     requires expires_on { IfSome voucher.now.expires_on IsInstant }
     requires serial { IsUtf8 voucher.now.serial }
-    ensures written { IfOk result (λ bytes. (created : List ℕ) × (end : Option (List ℕ))
+    ensures { IfOk result (λ bytes. (created : List ℕ) × (end : Option (List ℕ))
         × IsDateText voucher.now.created_on created × AreDateTexts voucher.now.expires_on end
         × (bytes ≡ compact_text (voucher_value voucher.now created end))) }
 {
     let created = date_text(alloc, voucher.created_on)?;
     let end = end_text(alloc, voucher.expires_on)?;
+    let value = object(alloc, voucher, &created, &end)?;
+    write(alloc, &value)
+}
+
+fn object(
+    alloc: Global,
+    voucher: &Voucher,
+    created: &String,
+    end: &Option<String>,
+) -> Result<Value, OutOfMemory>
+    requires { IsUtf8 voucher.now.serial }
+    ensures { IfOk result (λ value. view value
+        ≡ voucher_value voucher.now (string_bytes created.now) (option_map string_bytes end.now)) }
+{
     let mut object = Object::create(alloc);
-    object.put(alloc, Name::Voucher, members(alloc, voucher, created.as_str(), as_str_where(&end))?)?;
-    write(alloc, &object.into_value())
+    let inside = members(alloc, voucher, created.as_str(), as_str_where(end))?;
+    object.put(alloc, Name::Voucher, inside)?;
+    Ok(object.into_value())
 }
 
 fn members(
@@ -81,6 +95,7 @@ fn as_str_where(text: &Option<String>) -> Option<&str>
 }
 
 // the date and the time of day at the second, in UTC
+#[tactic(auto, using(crate::proofs::Dates::dated_instant))]
 fn date_text(alloc: Global, seconds: Seconds) -> Result<String, OutOfMemory>
     requires { IsInstant seconds }
     ensures { IfOk result (λ text. IsDateText seconds (string_bytes text)) }
@@ -88,64 +103,67 @@ fn date_text(alloc: Global, seconds: Seconds) -> Result<String, OutOfMemory>
     let Some(time) = DateTime::from_unix_seconds(seconds.0) else {
         unreachable!();
     };
+    civil_text(alloc, time)
+}
+
+fn civil_text(alloc: Global, time: DateTime) -> Result<String, OutOfMemory>
+    requires from { neg_ℤ (pos 9999) ≤ℤ time.year }
+    requires to { time.year ≤ℤ pos 9999 }
+    ensures { IfOk result (λ text. string_bytes text ≡ civil_text (civil_time time)) }
+{
     let mut text = String::new(alloc);
-    push_day(&mut text, &time)?;
+    push_day(&mut text, time)?;
     text.push('T')?;
-    push_clock(&mut text, &time)?;
+    push_clock(&mut text, time)?;
     text.push('Z')?;
     Ok(text)
 }
 
-fn push_day(text: &mut String, time: &DateTime) -> Result<(), OutOfMemory>
-    requires year { IsYear time.now.year }
-    requires month { time.now.month < 100 }
-    requires day { time.now.day < 100 }
-    ensures { OnOk result (string_bytes text.new ≡ string_bytes text.old ++ day_text (civil_time time.now)) }
+fn push_day(text: &mut String, time: DateTime) -> Result<(), OutOfMemory>
+    requires from { neg_ℤ (pos 9999) ≤ℤ time.year }
+    requires to { time.year ≤ℤ pos 9999 }
+    ensures { OnOk result (string_bytes text.new ≡ string_bytes text.old ++ day_text (civil_time time)) }
 {
-    push_year(text, time.year)?;
+    push_sign(text, time.year)?;
+    push_four(text, time.year.unsigned_abs())?;
     text.push('-')?;
-    push_two(text, u16::from(time.month))?;
+    push_two(text, time.month)?;
     text.push('-')?;
-    push_two(text, u16::from(time.day))
+    push_two(text, time.day)
 }
 
-fn push_clock(text: &mut String, time: &DateTime) -> Result<(), OutOfMemory>
-    requires hour { time.now.hour < 100 }
-    requires minute { time.now.minute < 100 }
-    requires second { time.now.second < 100 }
-    ensures { OnOk result (string_bytes text.new ≡ string_bytes text.old ++ clock_text (civil_time time.now)) }
+fn push_clock(text: &mut String, time: DateTime) -> Result<(), OutOfMemory>
+    ensures { OnOk result (string_bytes text.new ≡ string_bytes text.old ++ clock_text (civil_time time)) }
 {
-    push_two(text, u16::from(time.hour))?;
+    push_two(text, time.hour)?;
     text.push(':')?;
-    push_two(text, u16::from(time.minute))?;
+    push_two(text, time.minute)?;
     text.push(':')?;
-    push_two(text, u16::from(time.second))
+    push_two(text, time.second)
 }
 
-fn push_year(text: &mut String, year: i16) -> Result<(), OutOfMemory>
-    requires { IsYear year }
-    ensures { OnOk result (string_bytes text.new ≡ string_bytes text.old ++ year_text year) }
+// what stands before the four digits of a year
+fn push_sign(text: &mut String, year: i16) -> Result<(), OutOfMemory>
+    ensures { OnOk result (string_bytes text.new ≡ string_bytes text.old ++ sign_text year) }
 {
     if year < 0 {
         text.push_str("-00")?;
     }
-    let number = year.unsigned_abs();
-    push_two(text, number / 100)?;
-    push_two(text, number % 100)
-}
-
-fn push_two(text: &mut String, number: u16) -> Result<(), OutOfMemory>
-    requires { number < 100 }
-    ensures { OnOk result (string_bytes text.new ≡ string_bytes text.old ++ two_digits number) }
-{
-    text.push(digit(number / 10))?;
-    text.push(digit(number % 10))?;
     Ok(())
 }
 
-fn digit(number: u16) -> char
-    requires { number < 10 }
-    ensures { result ≡ 48 + number }
+fn push_four(text: &mut String, number: u16) -> Result<(), OutOfMemory>
+    requires { number < 10_000 }
+    ensures { OnOk result (string_bytes text.new ≡ string_bytes text.old ++ four_digits number) }
 {
-    (b'0' + number as u8) as char
+    push_two(text, (number / 100) as u8)?;
+    push_two(text, (number % 100) as u8)
+}
+
+fn push_two(text: &mut String, number: u8) -> Result<(), OutOfMemory>
+    ensures { OnOk result (string_bytes text.new ≡ string_bytes text.old ++ two_digits number) }
+{
+    text.push((b'0' + number / 10) as char)?;
+    text.push((b'0' + number % 10) as char)?;
+    Ok(())
 }
