@@ -4,3 +4,5 @@ pub mod Faultless
 pub mod OneReading
 pub mod Texts
 pub mod Plain
+pub mod RedirectBack
+pub mod OnboardingBack

@@ -7,7 +7,7 @@ ghost use Rattle.serde_json.specs.Data.{array};
 ghost use Rattle.serde_json.specs.View.{items_of, view};
 ghost use Rattle.sz_conveyed.specs.Onboarding.{handling_text};
 ghost use Rattle.serde_json.specs.Written.{compact_text};
-ghost use Rattle.sz_conveyed.specs.Written.{AreTexts, colon_text, image_value, information_value, lower_digit, onboarding_value, pair_text, redirect_value, server_value, texts_value, uris_value, verification_value};
+ghost use Rattle.sz_conveyed.specs.Written.{AreTexts, colon_text, image_value, information_value, lower_digit, onboarding_value, OnboardingReadsBack, pair_text, redirect_value, RedirectReadsBack, server_value, texts_value, uris_value, verification_value};
 
 use crate::{BootImage, Handling, Onboarding};
 use std::alloc::Global;
@@ -17,7 +17,8 @@ use sz_json::{Name, Object, Value, as_str, optional_bytes, optional_str, write};
 /// Writes onboarding information as compact JSON, with the members of each object in the byte order of their names.
 pub fn write_onboarding(alloc: Global, onboarding: &Onboarding) -> Result<Bytes, OutOfMemory>
     requires { IfSome onboarding.now.image AreTexts }
-    ensures { IfOk result (λ bytes. bytes ≡ compact_text (onboarding_value onboarding.now)) }
+    ensures written { IfOk result (λ bytes. bytes ≡ compact_text (onboarding_value onboarding.now)) }
+    ensures reads_back { IfOk result (OnboardingReadsBack onboarding.now) }
 {
     let value = onboarding_object(alloc, onboarding)?;
     write(alloc, &value)
@@ -25,7 +26,8 @@ pub fn write_onboarding(alloc: Global, onboarding: &Onboarding) -> Result<Bytes,
 
 /// Writes redirect information likewise.
 pub fn write_redirect(alloc: Global, targets: &Targets) -> Result<Bytes, OutOfMemory>
-    ensures { IfOk result (λ bytes. bytes ≡ compact_text (redirect_value targets.now)) }
+    ensures written { IfOk result (λ bytes. bytes ≡ compact_text (redirect_value targets.now)) }
+    ensures reads_back { IfOk result (RedirectReadsBack targets.now) }
 {
     let value = redirect_object(alloc, targets)?;
     write(alloc, &value)
