@@ -1,5 +1,5 @@
 -- What is written of onboarding information that was read, reads as it.
-use Rattle.std.proofs.Common.{◌≡◌, ℕ, ◌+◌, ◌*◌, ◌/◌, ◌%◌, ◌<◌, ◌≤◌, Bool, true, false, if◌then◌else◌, List, [], ◌∷◌, ◌++◌, map, drop, length, Option, Some, None, option_and_then, option_map, unwrap_or, nat_le, nat_lt, MatchBool, Ok, refl, sym, ap, subst, ◌∙◌, inl, inr, arith}
+use Rattle.std.proofs.Common.{◌≡◌, ℕ, suc, ◌+◌, ◌*◌, ◌/◌, ◌%◌, ◌<◌, ◌≤◌, Bool, true, false, if◌then◌else◌, List, [], ◌∷◌, ◌++◌, map, drop, length, Option, Some, None, option_and_then, option_map, unwrap_or, nat_le, nat_lt, MatchBool, Ok, refl, sym, ap, subst, ◌∙◌, inl, inr, arith}
 use Rattle.std.proofs.lemmas.Bool.{cases_lt}
 use Rattle.std.proofs.lemmas.Bool.Decides.{nat_tests}
 use Rattle.std.proofs.lemmas.List.{get_or_past}
@@ -70,14 +70,14 @@ pair_back byte h =
 pairs_back : (byte : ℕ) (bytes : List ℕ) → IsBytes (byte ∷ bytes) → pairs_of (pair_text byte ++ flat_map (λ next. 58 ∷ pair_text next) bytes) ≡ Some (byte ∷ bytes)
 unfolding pairs_of
 pairs_back byte [] h = rw (pair_back byte (h 0))
-pairs_back byte (next ∷ bytes) h = rw (pair_back byte (h 0), pairs_back next bytes (λ i. h (i + 1)))
+pairs_back byte (next ∷ bytes) h = rw (pair_back byte (h 0), pairs_back next bytes (λ i. h (suc i)))
 
 joined_length : (bytes : List ℕ) → length (flat_map (λ next. 58 ∷ pair_text next) bytes) ≡ 3 * length bytes
 joined_length [] = refl
 joined_length (byte ∷ bytes) = omega (arith, joined_length bytes)
 
 hash_back : (hash : List ℕ) → length hash ≡ 32 → IsBytes hash → hash_of_text (colon_text hash) ≡ Some hash
-unfolding hash_of_text colon_text
+unfolding hash_of_text
 hash_back [] size h = absurd (omega arith)
 hash_back (byte ∷ bytes) size h =
     let long : length (pair_text byte ++ flat_map (λ next. 58 ∷ pair_text next) bytes) ≡ 95 = omega (arith, joined_length bytes) in
@@ -90,7 +90,7 @@ hash_bytes : (text bytes : List ℕ) → IsColonHex text bytes → IsBytes bytes
 hash_bytes text bytes h i = elim (cases_lt i 32) [
   | inl below ↦
       let pair = h.pairs i below in
-      omega (arith, pair.value, digit_below _ pair.high_value pair.high_digit, digit_below _ pair.low_value pair.low_digit)
+      omega (arith, pair.value, digit_below (slice_index text (3 * i)) pair.high_value pair.high_digit, digit_below (slice_index text (3 * i + 1)) pair.low_value pair.low_digit)
   | inr past ↦ let none : slice_index bytes i ≡ 0 = get_or_past bytes i 0 (omega (arith, h.count)) in omega (arith, none)
 ]
 
