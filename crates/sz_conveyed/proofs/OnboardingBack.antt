@@ -9,9 +9,9 @@ use Rattle.base64.specs.GeneralPurpose.{IsBytes}
 use Rattle.hex.specs.Hex.{hex_digit_value}
 use Rattle.serde_json.specs.Data.{Data, Items, no_items, item, array, object, string}
 use Rattle.serde_json.specs.View.{items_of}
-use Rattle.sz_base.specs.Encoding.{base64_text, IsBase64, IsColonHex, IsPair}
-use Rattle.sz_json.proofs.Base64.{base64_of-text, IsBase64-base64_of}
-use Rattle.sz_json.proofs.Objects.{found-members_of, optional-members_of, or_before, required-members_of}
+use Rattle.sz_base.specs.Encoding.{base64_text, IsColonHex}
+use Rattle.sz_json.proofs.Base64.{base64_of-again}
+use Rattle.sz_json.proofs.Objects.{found-members_of, optional-members_of, or_before-None, required-members_of}
 use Rattle.sz_json.proofs.Readings.{form_from_optional, form_from_required}
 use Rattle.sz_json.specs.Member.{optional}
 use Rattle.sz_json.specs.Form.{base64_of, binary_of, list_of, object_of, text_of}
@@ -31,10 +31,6 @@ use Rattle.sz_conveyed.specs.declared.onboarding.Handling.{Handling}
 use Rattle.sz_conveyed.specs.declared.onboarding.Handling.TheVariants.{Merge, Replace}
 use Rattle.sz_conveyed.specs.declared.onboarding.Onboarding.{Onboarding}
 
-or_none : (o : Option Data) → or_before o None ≡ o
-or_none None = refl
-or_none (Some value) = refl
-
 -- ---- texts and bytes
 
 short_if : (test : Bool) (text short : List ℕ) → (if test then Some text else None) ≡ Some short → (test ≡ true) × (text ≡ short)
@@ -44,12 +40,6 @@ short_if false text short h = cc
 short_at : (text : Option (List ℕ)) (short : List ℕ) → option_and_then if_short text ≡ Some short → if_short short ≡ Some short
 short_at None short h = cc
 short_at (Some text) short h = let parts = short_if (nat_le (length text) 256) text short h in subst (λ x. if_short x ≡ Some x) parts.1 (rw parts.0)
-
-bytes_at : (text : Option (List ℕ)) (bytes : List ℕ) → option_and_then base64_of text ≡ Some bytes → base64_of (base64_text bytes) ≡ Some bytes
-bytes_at None bytes h = cc
-bytes_at (Some text) bytes h =
-    let is = IsBase64-base64_of text bytes h in
-    base64_of-text (base64_text bytes) bytes (record { bytes_fit = is.bytes_fit; spelled = refl })
 
 texts_back : (texts : List (List ℕ)) → texts_in (items_of (map string texts)) ≡ Some texts
 texts_back [] = refl
@@ -129,12 +119,12 @@ verified : (image : BootImage) (hash : Option (List ℕ)) → image.hash ≡ has
 unfolding entries_of
 verified image None e back = record {
   verification = None;
-  there = optional-members_of list_of name.ImageVerification (image_members image) None array (or_none _ ∙ ap (option_map verification_value) e) (λ items h. cc);
+  there = optional-members_of list_of name.ImageVerification (image_members image) None array (or_before-None _ ∙ ap (option_map verification_value) e) (λ items h. cc);
   hash = e;
 }
 verified image (Some bytes) e back = record {
   verification = Some (entries_of bytes);
-  there = optional-members_of list_of name.ImageVerification (image_members image) (Some (entries_of bytes)) array (or_none _ ∙ ap (option_map verification_value) e) (λ items h. refl);
+  there = optional-members_of list_of name.ImageVerification (image_members image) (Some (entries_of bytes)) array (or_before-None _ ∙ ap (option_map verification_value) e) (λ items h. refl);
   hash = (
     _,
     required-members_of text_of name.HashAlgorithm (hash_members bytes) _ refl,
@@ -150,12 +140,12 @@ record Located (image : BootImage) : Type 0 where
 located : (image : BootImage) (uris : List (List ℕ)) → image.uris ≡ uris → Located image
 located image [] e = record {
   uris = None;
-  there = optional-members_of texts_of name.DownloadUri (image_members image) None texts_value (or_none _ ∙ ap uris_value e) (λ texts h. cc);
+  there = optional-members_of texts_of name.DownloadUri (image_members image) None texts_value (or_before-None _ ∙ ap uris_value e) (λ texts h. cc);
   or_none = e;
 }
 located image (uri ∷ uris) e = record {
   uris = Some (uri ∷ uris);
-  there = optional-members_of texts_of name.DownloadUri (image_members image) (Some (uri ∷ uris)) texts_value (or_none _ ∙ ap uris_value e) (λ texts h. texts_back texts);
+  there = optional-members_of texts_of name.DownloadUri (image_members image) (Some (uri ∷ uris)) texts_value (or_before-None _ ∙ ap uris_value e) (λ texts h. texts_back texts);
   or_none = e;
 }
 
@@ -166,9 +156,9 @@ image_back value image h =
     record {
       uris = places.uris;
       verification = checked.verification;
-      os_name = optional-members_of short_text_of name.OsName (image_members image) image.os_name string (or_none _)
+      os_name = optional-members_of short_text_of name.OsName (image_members image) image.os_name string (or_before-None _)
           (λ text e. let read = form_from_optional short_text_of name.OsName value text (h.os_name ∙ ap Ok e) in short_at (text_of read.0) text read.1);
-      os_version = optional-members_of short_text_of name.OsVersion (image_members image) image.os_version string (or_none _)
+      os_version = optional-members_of short_text_of name.OsVersion (image_members image) image.os_version string (or_before-None _)
           (λ text e. let read = form_from_optional short_text_of name.OsVersion value text (h.os_version ∙ ap Ok e) in short_at (text_of read.0) text read.1);
       download_uri = places.there;
       or_none = places.or_none;
@@ -192,20 +182,20 @@ script_back : (name : Name) (information : Data) (script : Option (List ℕ)) �
     → (bytes : List ℕ) → script ≡ Some bytes → base64_of (base64_text bytes) ≡ Some bytes
 script_back name information script h bytes e =
     let read = form_from_optional binary_of name information bytes (h ∙ ap Ok e) in
-    bytes_at (text_of read.0) bytes read.1
+    base64_of-again (text_of read.0) bytes read.1
 
 information_back : (information : Data) (onboarding : Onboarding) → IsInformation information onboarding → IsInformation (information_value onboarding) onboarding
 information_back information onboarding h = record {
   image = option_map image_value onboarding.image;
   boot_image = optional-members_of object_of name.BootImage (information_members onboarding) (option_map image_value onboarding.image) (λ value. value)
-      (or_none _ ∙ sym (map_same _)) (λ value e. object_at onboarding.image value e);
+      (or_before-None _ ∙ sym (map_same _)) (λ value e. object_at onboarding.image value e);
   of_image = image_where_back h.image onboarding.image h.of_image;
   handling = required-members_of handling_of name.ConfigurationHandling (information_members onboarding) onboarding.handling (handling_back onboarding.handling);
-  pre = optional-members_of binary_of name.PreConfigurationScript (information_members onboarding) onboarding.pre binary_value (or_none _)
+  pre = optional-members_of binary_of name.PreConfigurationScript (information_members onboarding) onboarding.pre binary_value (or_before-None _)
       (script_back name.PreConfigurationScript information onboarding.pre h.pre);
-  configuration = optional-members_of binary_of name.Configuration (information_members onboarding) onboarding.configuration binary_value (or_none _)
+  configuration = optional-members_of binary_of name.Configuration (information_members onboarding) onboarding.configuration binary_value (or_before-None _)
       (script_back name.Configuration information onboarding.configuration h.configuration);
-  post = optional-members_of binary_of name.PostConfigurationScript (information_members onboarding) onboarding.post binary_value (or_none _)
+  post = optional-members_of binary_of name.PostConfigurationScript (information_members onboarding) onboarding.post binary_value (or_before-None _)
       (script_back name.PostConfigurationScript information onboarding.post h.post);
 }
   where

@@ -59,3 +59,10 @@ none_from (Some x) h = absurd (h x refl)
 -- any other text has it not
 pub base64_of-none : (text : List ℕ) → ((bytes : List ℕ) → IsBase64 text bytes → ⊥) → base64_of text ≡ None
 base64_of-none text h = none_from (base64_of text) (λ bytes e. h bytes (IsBase64-base64_of text bytes e))
+
+-- what is read as bytes is read again from their text
+pub base64_of-again : (text : Option (List ℕ)) (bytes : List ℕ) → option_and_then base64_of text ≡ Some bytes → base64_of (base64_text bytes) ≡ Some bytes
+base64_of-again None bytes h = cc
+base64_of-again (Some text) bytes h =
+    let is = IsBase64-base64_of text bytes h in
+    base64_of-text (base64_text bytes) bytes (record { bytes_fit = is.bytes_fit; spelled = refl })

@@ -10,6 +10,7 @@ first_fault None later fault h = λ name e. cc (h name e)
 first_fault (Some found) later fault h = h
 
 -- a fault of the member comes before those inside it
-pub outer_fault : {A : Type 0} (member : Result A Name) (inside : A → Option Name) (fault : JsonFault) → IsFault (fault_of member) fault → IsFault (first_inside member inside) fault
+pub outer_fault : {A : Type 0} (member : Result A Name) (inside : A → Option Name) (fault : JsonFault) → IsFault (fault_of member) fault
+    → IsFault (first_inside member inside) fault
 outer_fault (Ok found) inside fault h = λ name e. cc (h name e)
 outer_fault (Err name) inside fault h = h

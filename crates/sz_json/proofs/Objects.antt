@@ -20,6 +20,10 @@ abbrev pub or_before : Option Data → Option Data → Option Data
 or_before (Some value) before = Some value
 or_before None before = before
 
+pub or_before-None : (o : Option Data) → or_before o None ≡ o
+or_before-None None = refl
+or_before-None (Some value) = refl
+
 -- what is found under a key once the members of the list are put to those before
 abbrev pub found_in : List ℕ → List (Name × Option Data) → Option Data → Option Data
 found_in key [] before = before
@@ -102,9 +106,11 @@ abbrev pub AllPlain : ℕ → List (Name × Option Data) → Type 0
 AllPlain levels [] = Unit {0}
 AllPlain levels (one ∷ more) = IsPlainWhere levels one.1 × AllPlain levels more
 
-plain_with_members : (levels : ℕ) (list : List (Name × Option Data)) (before : Members) → AllPlain levels list → ArePlain levels before → ArePlain levels (with_members list before)
+plain_with_members : (levels : ℕ) (list : List (Name × Option Data)) (before : Members) → AllPlain levels list → ArePlain levels before
+    → ArePlain levels (with_members list before)
 plain_with_members levels [] before h all = all
-plain_with_members levels (one ∷ more) before h all = plain_with_members levels more (with_member one.0 one.1 before) h.1 (plain_with_member levels one.0 one.1 before h.0 all)
+plain_with_members levels (one ∷ more) before h all =
+    plain_with_members levels more (with_member one.0 one.1 before) h.1 (plain_with_member levels one.0 one.1 before h.0 all)
 
 pub plain_members_of : (levels : ℕ) (list : List (Name × Option Data)) → AllPlain levels list → IsPlain (levels + 1) (object (members_of list))
 plain_members_of levels list h = plain_object levels (members_of list) (plain_with_members levels list no_members h (plain_no_members levels))
@@ -121,19 +127,22 @@ pub record ArePlainItems (levels : ℕ) (items : Items) : Type 0 where
   pub no_float : items_have_float items ≡ false
   pub shallow : items_depth items ≤ levels
 
-plain_items : {A : Type 0} (levels : ℕ) (form : A → Data) (list : List A) → ((a : A) → IsPlain levels (form a)) → ArePlainItems levels (items_of (map form list))
+plain_items : {A : Type 0} (levels : ℕ) (form : A → Data) (list : List A) → ((a : A) → IsPlain levels (form a))
+    → ArePlainItems levels (items_of (map form list))
 plain_items levels form [] h = record { no_float = refl; shallow = omega arith }
 plain_items levels form (a ∷ list) h =
     let first = h a in
     let rest = plain_items levels form list h in
     record { no_float = rw first.no_float rest.no_float; shallow = omega (arith, first.shallow, rest.shallow) }
 
-pub plain_array : {A : Type 0} (levels : ℕ) (form : A → Data) (list : List A) → ((a : A) → IsPlain levels (form a)) → IsPlain (levels + 1) (array (items_of (map form list)))
+pub plain_array : {A : Type 0} (levels : ℕ) (form : A → Data) (list : List A) → ((a : A) → IsPlain levels (form a))
+    → IsPlain (levels + 1) (array (items_of (map form list)))
 plain_array levels form list h =
     let all = plain_items levels form list h in
     record { no_float = all.no_float; shallow = omega (arith, all.shallow) }
 
-required_at : {A : Type 0} (form : Data → Option A) (name : Name) (o : Option Data) (a : A) → option_and_then form o ≡ Some a → needed name (in_form form name o) ≡ Ok a
+required_at : {A : Type 0} (form : Data → Option A) (name : Name) (o : Option Data) (a : A) → option_and_then form o ≡ Some a
+    → needed name (in_form form name o) ≡ Ok a
 required_at form name None a h = cc
 required_at form name (Some value) a h = rw h
 
@@ -143,6 +152,7 @@ pub required-members_of : {A : Type 0} (form : Data → Option A) (name : Name) 
 required-members_of form name list a h = rw (found-members_of (name_text name) list) (required_at form name (found_in (name_text name) list None) a h)
 
 pub optional-members_of : {A : Type 0} (form : Data → Option A) (name : Name) (list : List (Name × Option Data)) (o : Option A) (write : A → Data)
-    → found_in (name_text name) list None ≡ option_map write o → ((a : A) → o ≡ Some a → form (write a) ≡ Some a) → optional form name (object (members_of list)) ≡ Ok o
+    → found_in (name_text name) list None ≡ option_map write o → ((a : A) → o ≡ Some a → form (write a) ≡ Some a)
+    → optional form name (object (members_of list)) ≡ Ok o
 optional-members_of form name list None write there h = rw (found-members_of (name_text name) list, there)
 optional-members_of form name list (Some a) write there h = rw (found-members_of (name_text name) list, there, h a refl)

@@ -18,7 +18,8 @@ optional_at form name true None a h = cc
 optional_at form name true (Some value) a h = (value, formed_at form name value (form value) a refl h)
 
 -- some value has the form, for what was read
-pub form_from_optional : {A : Type 0} (form : Data → Option A) (name : Name) (value : Data) (a : A) → optional form name value ≡ Ok (Some a) → (there : Data) × (form there ≡ Some a)
+pub form_from_optional : {A : Type 0} (form : Data → Option A) (name : Name) (value : Data) (a : A) → optional form name value ≡ Ok (Some a)
+    → (there : Data) × (form there ≡ Some a)
 form_from_optional form name value a h = optional_at form name (is_some (as_object value)) (get (name_text name) value) a h
 
 needed_at : {A : Type 0} (name : Name) (o : Result (Option A) Name) (a : A) → needed name o ≡ Ok a → o ≡ Ok (Some a)
@@ -26,5 +27,6 @@ needed_at name (Err fault) a h = cc
 needed_at name (Ok None) a h = cc
 needed_at name (Ok (Some b)) a h = cc
 
-pub form_from_required : {A : Type 0} (form : Data → Option A) (name : Name) (value : Data) (a : A) → required form name value ≡ Ok a → (there : Data) × (form there ≡ Some a)
+pub form_from_required : {A : Type 0} (form : Data → Option A) (name : Name) (value : Data) (a : A) → required form name value ≡ Ok a
+    → (there : Data) × (form there ≡ Some a)
 form_from_required form name value a h = form_from_optional form name value a (needed_at name (optional form name value) a h)

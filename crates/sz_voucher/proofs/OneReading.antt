@@ -13,17 +13,28 @@ members_fault_none inside voucher h =
 pub voucher_fault_none : (value : Data) (voucher : Voucher) → IsVoucher value voucher → voucher_fault value ≡ None
 voucher_fault_none value voucher h = rw h.top (members_fault_none h.inside voucher h.members)
 
-same_parts : (voucher : Voucher) (expires_on : Option Seconds) (serial pinned : List ℕ) (revocation : Bool) (nonce : Option (List ℕ)) (assertion : Assertion) (created_on : Seconds)
-    → voucher.expires_on ≡ expires_on → voucher.serial ≡ serial → voucher.pinned ≡ pinned → voucher.revocation ≡ revocation → voucher.nonce ≡ nonce → voucher.assertion ≡ assertion
+same_parts : (voucher : Voucher) (expires_on : Option Seconds) (serial pinned : List ℕ) (revocation : Bool) (nonce : Option (List ℕ))
+    (assertion : Assertion) (created_on : Seconds)
+    → voucher.expires_on ≡ expires_on → voucher.serial ≡ serial → voucher.pinned ≡ pinned → voucher.revocation ≡ revocation → voucher.nonce ≡ nonce
+    → voucher.assertion ≡ assertion
     → voucher.created_on ≡ created_on
-    → voucher ≡ record { expires_on = expires_on; serial = serial; pinned = pinned; revocation = revocation; nonce = nonce; assertion = assertion; created_on = created_on }
+    → voucher ≡ record {
+      expires_on = expires_on;
+      serial = serial;
+      pinned = pinned;
+      revocation = revocation;
+      nonce = nonce;
+      assertion = assertion;
+      created_on = created_on;
+    }
 same_parts voucher expires_on serial pinned revocation drawn assertion created_on e s p r n a c = rw (← e, ← s, ← p, ← r, ← n, ← a, ← c) refl
 
 same_members : (inside : Data) (voucher other : Voucher) → HasMembers inside voucher → HasMembers inside other → voucher ≡ other
 same_members inside voucher other h g =
     let checks : h.checks ≡ g.checks = cc in
     let revocation : voucher.revocation ≡ other.revocation = cc in
-    same_parts voucher other.expires_on other.serial other.pinned other.revocation other.nonce other.assertion other.created_on (cc) (cc) (cc) revocation (cc) (cc) (cc)
+    same_parts voucher other.expires_on other.serial other.pinned other.revocation other.nonce other.assertion other.created_on (cc) (cc) (cc)
+    revocation (cc) (cc) (cc)
 
 pub one_voucher : (value : Data) (voucher other : Voucher) → IsVoucher value voucher → IsVoucher value other → voucher ≡ other
 one_voucher value voucher other h g =

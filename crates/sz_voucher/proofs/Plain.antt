@@ -12,11 +12,22 @@ plain_binary bytes = plain_text 0 _
 pub plain_voucher : (voucher : Voucher) (created : List ℕ) (end : Option (List ℕ)) → IsPlain 2 (voucher_value voucher created end)
 plain_voucher voucher created end =
     let inside = plain_members_of 0 (inner_members voucher created end) (
-    plain_text 0 _,
-    (plain_where 0 string end (plain_text 0),
-    (plain_text 0 _,
-    (plain_text 0 _,
-    (plain_text 0 _,
-    (record { no_float = refl; shallow = omega arith },
-    (plain_where 0 binary_value voucher.nonce plain_binary, tt))))))) in
+      plain_text 0 _,
+      (
+        plain_where 0 string end (plain_text 0),
+        (
+          plain_text 0 _,
+          (
+            plain_text 0 _,
+            (
+              plain_text 0 _,
+              (
+                record { no_float = refl; shallow = omega arith },
+                (plain_where 0 binary_value voucher.nonce plain_binary, tt),
+              ),
+            ),
+          ),
+        ),
+      ),
+    ) in
     plain_members_of 1 (outer_members voucher created end) (inside, tt)

@@ -1,5 +1,5 @@
--- What is written of a voucher: its members in the byte order of their names. Dates are in UTC; the certificate's issuer and
--- the date of renewal are never written.
+-- What is written of a voucher: its members in the byte order of their names. Dates are in UTC; the certificate's
+-- issuer and the date of renewal are never written.
 use Rattle.std.specs.Prelude.{◌≡◌, ℕ, ◌+◌, ◌/◌, ◌%◌, List, [], ◌∷◌, ◌++◌, Option, Some, None, option_map, codes, ℤ, pos, int_lt, unsigned_abs, if◌then◌else◌, ◌*ℤ◌, ⊤}
 use Rattle.jiff_core.specs.Timestamp.{IsTimestampNanos}
 use Rattle.serde_json.specs.Data.{Data, boolean, object, string}
@@ -9,6 +9,7 @@ use Rattle.sz_json.specs.Object.{binary_value, members_of}
 use Rattle.sz_json.specs.declared.name.Name.{Name}
 use Rattle.sz_json.specs.declared.name.Name.TheVariants as name
 use Rattle.sz_voucher.specs.Assertion.{assertion_text}
+use Rattle.sz_voucher.specs.Voucher.{IsVoucher, VoucherOf}
 use Rattle.sz_voucher.specs.declared.voucher.Voucher.{Voucher}
 
 -- ---- dates (RFC 3339): `YYYY-MM-DDThh:mm:ssZ`, where a year below 0 is `-` and six digits
@@ -74,3 +75,7 @@ outer_members voucher created end = (name.Voucher, Some (members_value voucher c
 
 abbrev pub voucher_value : Voucher → List ℕ → Option (List ℕ) → Data
 voucher_value voucher created end = object (members_of (outer_members voucher created end))
+
+-- what was read of some value reads back from its text
+abbrev pub ReadsBack : Voucher → List ℕ → Type 0
+ReadsBack voucher bytes = (value : Data) → IsVoucher value voucher → VoucherOf bytes voucher

@@ -1,8 +1,11 @@
 //! Vouchers as texts: one case a member and kind of fault, and the judgement at its edges.
 
-use crate::{Assertion, Voucher, VoucherFault, judge};
+ghost use Rattle.std.specs.Prelude.{IfOk, IsUtf8};
+ghost use Rattle.sz_voucher.specs.Written.{IsInstant};
+
+use crate::{Assertion, Voucher, VoucherFault, judge, write_voucher};
 use std::alloc::Global;
-use sz_base::{BaseFault, Bytes, Moment, Seconds, Serial, Text};
+use sz_base::{BaseFault, Bytes, Moment, OutOfMemory, Seconds, Serial, Text};
 use sz_json::{JsonFault, Name};
 
 // the example of RFC 8366 section 3.2 with members of its section 5.2, bytes in base64
@@ -199,5 +202,41 @@ fn judged(rt: HostRuntime) -> Result<(), BaseFault> {
         };
         assert_eq!(rt; judge(&voucher, &serial, when), want);
     }
+    Ok(())
+}
+
+fn serial(alloc: Global, text: &str) -> Result<Text, OutOfMemory>
+    ensures { IfOk result IsUtf8 }
+{
+    Text::from_slice(alloc, text.as_bytes())
+}
+
+fn written(alloc: Global, created_on: Seconds) -> Result<Bytes, OutOfMemory>
+    requires { IsInstant created_on }
+{
+    let voucher = Voucher {
+        expires_on: None,
+        serial: serial(alloc, "A1")?,
+        pinned: Bytes::from_slice(alloc, b"foob")?,
+        revocation: false,
+        nonce: Some(Bytes::from_slice(alloc, &[0, 1, 2, 3, 4, 5, 6, 7])?),
+        assertion: Assertion::Verified,
+        created_on,
+    };
+    write_voucher(alloc, &voucher)
+}
+
+const WRITTEN: &[u8] =
+    br#"{"ietf-voucher:voucher":{"assertion":"verified","created-on":"2016-10-07T19:31:42Z","domain-cert-revocation-checks":false,"nonce":"AAECAwQFBgc=","pinned-domain-cert":"Zm9vYg==","serial-number":"A1"}}"#;
+
+const EARLIEST: &[u8] =
+    br#"{"ietf-voucher:voucher":{"assertion":"verified","created-on":"-009999-01-02T01:59:59Z","domain-cert-revocation-checks":false,"nonce":"AAECAwQFBgc=","pinned-domain-cert":"Zm9vYg==","serial-number":"A1"}}"#;
+
+#[test]
+fn what_is_written(rt: HostRuntime) -> Result<(), OutOfMemory> {
+    let text = written(rt.alloc(), Seconds(1_475_868_702))?;
+    assert!(rt; text.as_slice() == WRITTEN);
+    let earliest = written(rt.alloc(), Seconds(-377_705_023_201))?;
+    assert!(rt; earliest.as_slice() == EARLIEST);
     Ok(())
 }

@@ -6,7 +6,7 @@ ghost use Rattle.serde_json.specs.View.{view};
 ghost use Rattle.serde_json.specs.Written.{compact_text};
 ghost use Rattle.sz_calendar.specs.DateTime.{civil_time};
 ghost use Rattle.sz_voucher.specs.Assertion.{assertion_text};
-ghost use Rattle.sz_voucher.specs.Written.{AreDateTexts, civil_text, clock_text, day_text, four_digits, IsDateText, IsInstant, members_value, sign_text, two_digits, voucher_value};
+ghost use Rattle.sz_voucher.specs.Written.{AreDateTexts, civil_text, clock_text, day_text, four_digits, IsDateText, IsInstant, members_value, ReadsBack, sign_text, two_digits, voucher_value};
 
 use crate::{Assertion, Voucher};
 use std::alloc::Global;
@@ -19,9 +19,10 @@ pub fn write_voucher(alloc: Global, voucher: &Voucher) -> Result<Bytes, OutOfMem
     requires created_on { IsInstant voucher.now.created_on }
     requires expires_on { IfSome voucher.now.expires_on IsInstant }
     requires serial { IsUtf8 voucher.now.serial }
-    ensures { IfOk result (λ bytes. (created : List ℕ) × (end : Option (List ℕ))
+    ensures written { IfOk result (λ bytes. (created : List ℕ) × (end : Option (List ℕ))
         × IsDateText voucher.now.created_on created × AreDateTexts voucher.now.expires_on end
         × (bytes ≡ compact_text (voucher_value voucher.now created end))) }
+    ensures reads_back { IfOk result (ReadsBack voucher.now) }
 {
     let created = date_text(alloc, voucher.created_on)?;
     let end = end_text(alloc, voucher.expires_on)?;
