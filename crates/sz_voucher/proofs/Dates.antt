@@ -1,6 +1,6 @@
 -- The text of a date reads back as its second.
-use Rattle.std.proofs.Common.{◌≡◌, ℕ, suc, ◌+◌, ◌*◌, ◌<◌, ◌≤◌, false, List, [], ◌∷◌, ◌++◌, Some, None, Ok, append_assoc, refl, sym, ap, ◌∙◌, arith, ℤ, pos, negsuc, ◌+ℤ◌, ◌*ℤ◌, ◌≤ℤ◌, unsigned_abs}
-use Rattle.std.proofs.lemmas.Int.{ints}
+use Rattle.std.proofs.Common.{◌≡◌, ℕ, nat_lt, ◌+◌, ◌*◌, ◌<◌, ◌≤◌, false, List, [], ◌∷◌, ◌++◌, Some, None, Ok, append_assoc, refl, sym, ap, ◌∙◌, arith, ℤ, pos, negsuc, ◌+ℤ◌, ◌*ℤ◌, ◌≤ℤ◌, unsigned_abs}
+use Rattle.std.proofs.lemmas.Bool.Decides.{nat_tests}
 use Rattle.std.specs.Int.{int_div_euclid}
 use Rattle.jiff_core.proofs.SignedLemmas.{signed_arith}
 use Rattle.jiff_core.specs.DateTime.{civil_nanos}
@@ -57,7 +57,7 @@ abbrev jiff_time : (time : CivilTime) → IsReal time → DateTime
 jiff_time time real = record { date = jiff_date time real; time = jiff_clock time real }
 
 year_is : (year : ℤ) → year_text year ≡ jiff.year_text year
-year_is (pos n) = refl
+year_is (pos n) = let none : nat_lt n 0 ≡ false = grind (arith, nat_tests) in rw none
 year_is (negsuc n) = refl
 
 text_is : (time : CivilTime) (real : IsReal time) → civil_text time ≡ jiff.datetime_text false 84 None (jiff_time time real) ++ jiff.zulu_text false
