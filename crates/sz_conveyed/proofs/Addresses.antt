@@ -1,5 +1,5 @@
 -- The tests of an address are the forms of hosts.
-use Rattle.std.proofs.Common.{◌≡◌, ℕ, ◌+◌, ◌-◌, ◌≤◌, ◌&&◌, ◌||◌, Bool, true, false, if◌then◌else◌, List, [], ◌∷◌, ◌++◌, length, take, drop, Option, Some, None, nat_le, refl, sym, ap, subst, ◌∙◌, inl, inr, arith, codes, length-append}
+use Rattle.std.proofs.Common.{◌≡◌, ℕ, ◌-◌, ◌≤◌, ◌&&◌, ◌||◌, Bool, true, false, if◌then◌else◌, List, [], ◌∷◌, length, Some, None, nat_le, refl, sym, ap, subst, ◌∙◌, inl, inr, arith, length-append}
 use Rattle.std.proofs.lemmas.Bool.{cases_Bool, eqb-true, true≢false}
 use Rattle.std.proofs.lemmas.Bool.Decides.{nat_tests}
 use Rattle.std.proofs.lemmas.List.Sums.{AllPass-from_list_all, list_all-from_AllPass}
@@ -8,7 +8,6 @@ use Rattle.std.proofs.Math.Seq.{take-append_seam}
 use Rattle.std.specs.Bool.{Decides}
 use Rattle.std.specs.List.{AllPass, list_all}
 use Rattle.std.specs.Prelude.{count_by, ◌⊎◌}
-use Rattle.std.specs.Str.{bytes_eq}
 use Rattle.sz_base.specs.Byte.{is_colon}
 use Rattle.sz_base.specs.Host.{in_brackets, is_ipv6_byte, is_name_byte, IsHost, IsInBrackets, IsIpv6Text, IsName}
 use Rattle.sz_conveyed.specs.Address.{host_of, inner, is_in_brackets, is_ipv6_text, is_name, IsAddress}

@@ -1,5 +1,5 @@
 -- A value that is read has no member at fault.
-use Rattle.std.proofs.Common.{◌≡◌, ℕ, Bool, true, false, if◌then◌else◌, List, [], ◌∷◌, Option, Some, None, Ok, MatchBool, refl}
+use Rattle.std.proofs.Common.{◌≡◌, ℕ, Bool, true, false, if◌then◌else◌, List, [], ◌∷◌, Option, Some, None, MatchBool, refl}
 use Rattle.serde_json.specs.Data.{Data, Items, no_items, item}
 use Rattle.sz_base.specs.declared.target.Target.{Target}
 use Rattle.sz_json.specs.Fault.{fault_of}
@@ -28,7 +28,8 @@ servers_fault_none (item entry entries) (target ∷ targets) h = rw (server_faul
 pub redirect_fault_none : (value : Data) (targets : List Target) → IsRedirect value targets → redirect_fault value ≡ None
 redirect_fault_none value targets h = rw (h.top, h.bootstrap_server) (servers_fault_none h.servers targets h.each)
 
-named_fault : (named : Bool) (entry : Data) (later : Option Name) (hash : Option (List ℕ)) (Later : Type 0) → (Later → later ≡ None) → MatchBool named (IsHash entry hash) Later
+named_fault : (named : Bool) (entry : Data) (later : Option Name) (hash : Option (List ℕ)) (Later : Type 0) → (Later → later ≡ None)
+    → MatchBool named (IsHash entry hash) Later
     → (if named then fault_of (required hash_of name.HashValue entry) else later) ≡ None
 named_fault true entry later hash Later rest h = rw h.value
 named_fault false entry later hash Later rest h = rest h

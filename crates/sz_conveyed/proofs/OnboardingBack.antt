@@ -1,5 +1,5 @@
 -- What is written of onboarding information that was read, reads as it.
-use Rattle.std.proofs.Common.{◌≡◌, ℕ, suc, ◌+◌, ◌*◌, ◌/◌, ◌%◌, ◌<◌, ◌≤◌, Bool, true, false, if◌then◌else◌, List, [], ◌∷◌, ◌++◌, map, drop, length, Option, Some, None, option_and_then, option_map, unwrap_or, nat_le, nat_lt, MatchBool, Ok, refl, sym, ap, subst, ◌∙◌, inl, inr, arith}
+use Rattle.std.proofs.Common.{◌≡◌, ℕ, suc, ◌+◌, ◌*◌, ◌/◌, ◌%◌, ◌<◌, Bool, true, false, if◌then◌else◌, List, [], ◌∷◌, ◌++◌, map, length, Option, Some, None, option_and_then, option_map, unwrap_or, nat_le, MatchBool, Ok, refl, sym, ap, subst, ◌∙◌, inl, inr, arith}
 use Rattle.std.proofs.lemmas.Bool.{cases_lt}
 use Rattle.std.proofs.lemmas.Bool.Decides.{nat_tests}
 use Rattle.std.proofs.lemmas.List.{get_or_past}
@@ -11,11 +11,10 @@ use Rattle.serde_json.specs.Data.{Data, Items, no_items, item, array, object, st
 use Rattle.serde_json.specs.View.{items_of}
 use Rattle.sz_base.specs.Encoding.{base64_text, IsColonHex}
 use Rattle.sz_json.proofs.Base64.{base64_of-again}
-use Rattle.sz_json.proofs.Objects.{found-members_of, optional-members_of, or_before-None, required-members_of}
+use Rattle.sz_json.proofs.Objects.{optional-members_of, or_before-None, required-members_of}
 use Rattle.sz_json.proofs.Readings.{form_from_optional, form_from_required}
 use Rattle.sz_json.specs.Member.{optional}
 use Rattle.sz_json.specs.Form.{base64_of, binary_of, list_of, object_of, text_of}
-use Rattle.sz_json.specs.Name.{name_text}
 use Rattle.sz_json.specs.Object.{binary_value, members_of}
 use Rattle.sz_json.specs.declared.name.Name.{Name}
 use Rattle.sz_json.specs.declared.name.Name.TheVariants as name
@@ -57,7 +56,8 @@ pair_back byte h =
     let sum : 16 * (byte / 16) + byte % 16 ≡ byte = omega arith in
     rw (digit_back (byte / 16) high, digit_back (byte % 16) low) (ap Some sum)
 
-pairs_back : (byte : ℕ) (bytes : List ℕ) → IsBytes (byte ∷ bytes) → pairs_of (pair_text byte ++ flat_map (λ next. 58 ∷ pair_text next) bytes) ≡ Some (byte ∷ bytes)
+pairs_back : (byte : ℕ) (bytes : List ℕ) → IsBytes (byte ∷ bytes)
+    → pairs_of (pair_text byte ++ flat_map (λ next. 58 ∷ pair_text next) bytes) ≡ Some (byte ∷ bytes)
 unfolding pairs_of
 pairs_back byte [] h = rw (pair_back byte (h 0))
 pairs_back byte (next ∷ bytes) h = rw (pair_back byte (h 0), pairs_back next bytes (λ i. h (suc i)))
@@ -96,12 +96,14 @@ named_at true entry hash Later bytes e rest h =
     subst (λ x. hash_of_text (colon_text x) ≡ Some x) same (hash_at (text_of read.0) h.bytes read.1)
 named_at false entry hash Later bytes e rest h = rest h
 
-named_back : (entries : Items) (hash : Option (List ℕ)) (bytes : List ℕ) → hash ≡ Some bytes → NamesHash entries hash → hash_of_text (colon_text bytes) ≡ Some bytes
+named_back : (entries : Items) (hash : Option (List ℕ)) (bytes : List ℕ) → hash ≡ Some bytes → NamesHash entries hash
+    → hash_of_text (colon_text bytes) ≡ Some bytes
 named_back no_items hash bytes e h = cc
 named_back (item entry entries) hash bytes e h =
     named_at (is_sha256 h.0) entry hash (NamesHash entries hash) bytes e (named_back entries hash bytes e) h.2
 
-named_where : (entries : Option Items) (hash : Option (List ℕ)) (bytes : List ℕ) → hash ≡ Some bytes → NamesHashWhere entries hash → hash_of_text (colon_text bytes) ≡ Some bytes
+named_where : (entries : Option Items) (hash : Option (List ℕ)) (bytes : List ℕ) → hash ≡ Some bytes → NamesHashWhere entries hash
+    → hash_of_text (colon_text bytes) ≡ Some bytes
 named_where None hash bytes e h = cc
 named_where (Some entries) hash bytes e h = named_back entries hash bytes e h
 
@@ -115,16 +117,21 @@ record Verified (image : BootImage) : Type 0 where
 entries_of : List ℕ → Items
 entries_of hash = item (object (members_of (hash_members hash))) no_items
 
-verified : (image : BootImage) (hash : Option (List ℕ)) → image.hash ≡ hash → ((bytes : List ℕ) → hash ≡ Some bytes → hash_of_text (colon_text bytes) ≡ Some bytes) → Verified image
+verified : (image : BootImage) (hash : Option (List ℕ)) → image.hash ≡ hash
+    → ((bytes : List ℕ) → hash ≡ Some bytes → hash_of_text (colon_text bytes) ≡ Some bytes) → Verified image
 unfolding entries_of
 verified image None e back = record {
   verification = None;
-  there = optional-members_of list_of name.ImageVerification (image_members image) None array (or_before-None _ ∙ ap (option_map verification_value) e) (λ items h. cc);
+  there =
+      optional-members_of list_of name.ImageVerification (image_members image) None array (or_before-None _ ∙ ap (option_map verification_value) e)
+      (λ items h. cc);
   hash = e;
 }
 verified image (Some bytes) e back = record {
   verification = Some (entries_of bytes);
-  there = optional-members_of list_of name.ImageVerification (image_members image) (Some (entries_of bytes)) array (or_before-None _ ∙ ap (option_map verification_value) e) (λ items h. refl);
+  there =
+      optional-members_of list_of name.ImageVerification (image_members image) (Some (entries_of bytes)) array
+      (or_before-None _ ∙ ap (option_map verification_value) e) (λ items h. refl);
   hash = (
     _,
     required-members_of text_of name.HashAlgorithm (hash_members bytes) _ refl,
@@ -145,7 +152,9 @@ located image [] e = record {
 }
 located image (uri ∷ uris) e = record {
   uris = Some (uri ∷ uris);
-  there = optional-members_of texts_of name.DownloadUri (image_members image) (Some (uri ∷ uris)) texts_value (or_before-None _ ∙ ap uris_value e) (λ texts h. texts_back texts);
+  there =
+      optional-members_of texts_of name.DownloadUri (image_members image) (Some (uri ∷ uris)) texts_value (or_before-None _ ∙ ap uris_value e)
+      (λ texts h. texts_back texts);
   or_none = e;
 }
 
@@ -184,13 +193,15 @@ script_back name information script h bytes e =
     let read = form_from_optional binary_of name information bytes (h ∙ ap Ok e) in
     base64_of-again (text_of read.0) bytes read.1
 
-information_back : (information : Data) (onboarding : Onboarding) → IsInformation information onboarding → IsInformation (information_value onboarding) onboarding
+information_back : (information : Data) (onboarding : Onboarding) → IsInformation information onboarding
+    → IsInformation (information_value onboarding) onboarding
 information_back information onboarding h = record {
   image = option_map image_value onboarding.image;
   boot_image = optional-members_of object_of name.BootImage (information_members onboarding) (option_map image_value onboarding.image) (λ value. value)
       (or_before-None _ ∙ sym (map_same _)) (λ value e. object_at onboarding.image value e);
   of_image = image_where_back h.image onboarding.image h.of_image;
-  handling = required-members_of handling_of name.ConfigurationHandling (information_members onboarding) onboarding.handling (handling_back onboarding.handling);
+  handling =
+      required-members_of handling_of name.ConfigurationHandling (information_members onboarding) onboarding.handling (handling_back onboarding.handling);
   pre = optional-members_of binary_of name.PreConfigurationScript (information_members onboarding) onboarding.pre binary_value (or_before-None _)
       (script_back name.PreConfigurationScript information onboarding.pre h.pre);
   configuration = optional-members_of binary_of name.Configuration (information_members onboarding) onboarding.configuration binary_value (or_before-None _)
@@ -210,7 +221,8 @@ information_back information onboarding h = record {
 alone : (onboarding : Onboarding) → has_onboarding (onboarding_value onboarding) ≡ Some true
 alone onboarding = refl
 
-pub onboarding_reads_back : (value : Data) (onboarding : Onboarding) → IsOnboarding value onboarding → IsConveyed (onboarding_value onboarding) (Information onboarding)
+pub onboarding_reads_back : (value : Data) (onboarding : Onboarding) → IsOnboarding value onboarding
+    → IsConveyed (onboarding_value onboarding) (Information onboarding)
 onboarding_reads_back value onboarding h = (
   alone onboarding,
   record {

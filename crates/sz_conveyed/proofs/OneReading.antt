@@ -1,5 +1,5 @@
 -- A value is read as one redirect, and as one piece of onboarding information.
-use Rattle.std.proofs.Common.{◌≡◌, ℕ, Bool, true, false, List, [], ◌∷◌, Option, Some, None, Ok, MatchBool, refl, sym, ap, subst}
+use Rattle.std.proofs.Common.{◌≡◌, ℕ, Bool, true, false, List, [], ◌∷◌, Option, Some, None, MatchBool, refl, ap, subst}
 use Rattle.serde_json.specs.Data.{Data, Items, no_items, item}
 use Rattle.sz_base.specs.declared.target.Target.{Target}
 use Rattle.sz_conveyed.specs.Conveyed.{IsConveyed}
@@ -57,7 +57,8 @@ one_hash_where : (entries : Option Items) (hash other : Option (List ℕ)) → N
 one_hash_where None hash other h g = cc
 one_hash_where (Some entries) hash other h g = one_hash entries hash other h g
 
-image_parts : (image : BootImage) (os_name os_version : Option (List ℕ)) (uris : List (List ℕ)) (hash : Option (List ℕ)) → image.os_name ≡ os_name → image.os_version ≡ os_version
+image_parts : (image : BootImage) (os_name os_version : Option (List ℕ)) (uris : List (List ℕ)) (hash : Option (List ℕ)) → image.os_name ≡ os_name
+    → image.os_version ≡ os_version
     → image.uris ≡ uris → image.hash ≡ hash → image ≡ record { os_name = os_name; os_version = os_version; uris = uris; hash = hash }
 image_parts image os_name os_version uris hash n v u h = rw (← n, ← v, ← u, ← h) refl
 
@@ -77,12 +78,14 @@ one_image_where (Some value) None other h g = absurd h
 one_image_where (Some value) (Some image) None h g = absurd g
 one_image_where (Some value) (Some image) (Some other) h g = ap Some (one_image value image other h g)
 
-onboarding_parts : (onboarding : Onboarding) (image : Option BootImage) (handling : Handling) (pre configuration post : Option (List ℕ)) → onboarding.image ≡ image
+onboarding_parts : (onboarding : Onboarding) (image : Option BootImage) (handling : Handling) (pre configuration post : Option (List ℕ))
+    → onboarding.image ≡ image
     → onboarding.handling ≡ handling → onboarding.pre ≡ pre → onboarding.configuration ≡ configuration → onboarding.post ≡ post
     → onboarding ≡ record { image = image; handling = handling; pre = pre; configuration = configuration; post = post }
 onboarding_parts onboarding image handling pre configuration post i h b c a = rw (← i, ← h, ← b, ← c, ← a) refl
 
-one_information : (information : Data) (onboarding other : Onboarding) → IsInformation information onboarding → IsInformation information other → onboarding ≡ other
+one_information : (information : Data) (onboarding other : Onboarding) → IsInformation information onboarding → IsInformation information other
+    → onboarding ≡ other
 one_information information onboarding other h g =
     let same : g.image ≡ h.image = cc in
     let image = one_image_where h.image onboarding.image other.image h.of_image (subst (λ value. IsImageWhere value other.image) same g.of_image) in
@@ -101,4 +104,5 @@ one_conveyed value (Redirect targets) (OnboardingInformation other) h g =
 one_conveyed value (OnboardingInformation onboarding) (Redirect others) h g =
     let apart : Some false ≡ Some true = cc in
     cc
-one_conveyed value (OnboardingInformation onboarding) (OnboardingInformation other) h g = ap OnboardingInformation (one_onboarding value onboarding other h.1 g.1)
+one_conveyed value (OnboardingInformation onboarding) (OnboardingInformation other) h g =
+    ap OnboardingInformation (one_onboarding value onboarding other h.1 g.1)

@@ -1,5 +1,5 @@
 -- Pairs joined by colons, one after another and by place.
-use Rattle.std.proofs.Common.{◌≡◌, ℕ, zero, suc, ◌+◌, ◌*◌, ◌<◌, ◌==◌, Bool, true, false, if◌then◌else◌, List, [], ◌∷◌, length, Option, Some, None, IfSome, IsNone, option_and_then, option_map, refl, sym, ap, subst, ◌∙◌, arith, eq-eqb}
+use Rattle.std.proofs.Common.{◌≡◌, ℕ, zero, suc, ◌+◌, ◌*◌, ◌<◌, ◌==◌, Bool, true, false, if◌then◌else◌, List, [], ◌∷◌, length, Option, Some, None, IfSome, IsNone, option_and_then, option_map, refl, sym, ap, arith, eq-eqb}
 use Rattle.std.proofs.lemmas.Bool.{eqb-true}
 use Rattle.std.specs.Prelude.{slice_index}
 use Rattle.hex.specs.Hex.{hex_digit_value}
@@ -23,7 +23,8 @@ IsPair-pair_of high low byte (Some a) None eh el e = cc
 IsPair-pair_of high low byte (Some a) (Some b) eh el e = record { high_value = a; low_value = b; high_digit = eh; low_digit = el; value = cc }
 
 -- without the first pair and its colon
-tail_pairs : (n : ℕ) (high low colon : ℕ) (rest : List ℕ) (byte : ℕ) (bytes : List ℕ) → ArePairs (suc n) (high ∷ low ∷ colon ∷ rest) (byte ∷ bytes) → 0 < n → ArePairs n rest bytes
+tail_pairs : (n : ℕ) (high low colon : ℕ) (rest : List ℕ) (byte : ℕ) (bytes : List ℕ) → ArePairs (suc n) (high ∷ low ∷ colon ∷ rest) (byte ∷ bytes)
+    → 0 < n → ArePairs n rest bytes
 tail_pairs n high low colon rest byte bytes h some = record {
   size = omega (arith, h.size);
   count = omega (arith, h.count);
@@ -80,7 +81,8 @@ cons_pairs n high low colon rest byte bytes first mark h = record {
   colons = colons_at;
 }
   where
-    pairs_at : (k : ℕ) → k < suc n → IsPair (slice_index (high ∷ low ∷ colon ∷ rest) (3 * k)) (slice_index (high ∷ low ∷ colon ∷ rest) (3 * k + 1)) (slice_index (byte ∷ bytes) k)
+    pairs_at : (k : ℕ) → k < suc n
+        → IsPair (slice_index (high ∷ low ∷ colon ∷ rest) (3 * k)) (slice_index (high ∷ low ∷ colon ∷ rest) (3 * k + 1)) (slice_index (byte ∷ bytes) k)
     pairs_at zero below = first
     pairs_at (suc k) below =
         let one : 3 * suc k + 1 ≡ suc (suc (suc (3 * k + 1))) = omega arith in

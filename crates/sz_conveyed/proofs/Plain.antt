@@ -1,17 +1,16 @@
 -- What is written has no float, and nests in few levels.
-use Rattle.std.proofs.Common.{◌≡◌, ℕ, ◌+◌, ◌≤◌, false, List, [], ◌∷◌, Option, Some, None, refl, arith}
-use Rattle.serde_json.specs.Data.{Data, depth}
-use Rattle.serde_json.specs.Written.{has_float}
+use Rattle.std.proofs.Common.{ℕ, List, [], ◌∷◌, refl, arith}
 use Rattle.sz_base.specs.declared.target.Target.{Target}
 use Rattle.sz_json.proofs.Objects.{IsPlain, IsPlainWhere, plain_array, plain_members_of, plain_text, plain_where}
 use Rattle.sz_json.specs.Object.{binary_value}
 use Rattle.serde_json.specs.Data.{string}
-use Rattle.sz_conveyed.specs.Written.{hash_members, image_members, image_value, information_members, information_value, onboarding_members, onboarding_value, redirect_members, redirect_value, server_members, server_value, servers_members, texts_value, uris_value, verification_value}
+use Rattle.sz_conveyed.specs.Written.{hash_members, image_members, image_value, information_members, information_value, onboarding_members, onboarding_value, redirect_members, redirect_value, server_members, server_value, servers_members, uris_value, verification_value}
 use Rattle.sz_conveyed.specs.declared.onboarding.BootImage.{BootImage}
 use Rattle.sz_conveyed.specs.declared.onboarding.Onboarding.{Onboarding}
 
 plain_server : (target : Target) → IsPlain 1 (server_value target)
-plain_server target = plain_members_of 0 (server_members target) (record { no_float = refl; shallow = omega arith }, (record { no_float = refl; shallow = omega arith }, tt))
+plain_server target =
+    plain_members_of 0 (server_members target) (record { no_float = refl; shallow = omega arith }, (record { no_float = refl; shallow = omega arith }, tt))
 
 pub plain_redirect : (targets : List Target) → IsPlain 4 (redirect_value targets)
 plain_redirect targets =

@@ -1,15 +1,14 @@
 -- What is written of a redirect that was read, reads as it.
 use Rattle.std.proofs.Common.{◌≡◌, ℕ, ◌≤◌, ◌&&◌, Bool, true, false, if◌then◌else◌, List, [], ◌∷◌, map, Option, Some, None, option_and_then, unwrap_or, nat_le, Ok, refl, sym, ap, subst, ◌∙◌, arith}
 use Rattle.std.proofs.lemmas.Bool.Decides.{nat_tests}
-use Rattle.serde_json.specs.Data.{Data, Items, no_items, item, array, object, number, unsigned}
-use Rattle.serde_json.specs.Find.{as_array, as_number, as_u64}
+use Rattle.serde_json.specs.Data.{Data, Items, no_items, item, object, number, unsigned}
+use Rattle.serde_json.specs.Find.{as_number, as_u64}
 use Rattle.serde_json.specs.View.{items_of}
 use Rattle.sz_base.specs.Host.{IsHost}
 use Rattle.sz_base.specs.declared.target.Target.{Target}
-use Rattle.sz_json.proofs.Objects.{found-members_of, optional-members_of, required-members_of}
+use Rattle.sz_json.proofs.Objects.{optional-members_of, required-members_of}
 use Rattle.sz_json.proofs.Readings.{form_from_optional, form_from_required}
 use Rattle.sz_json.specs.Form.{list_of, object_of, port_in_range, port_of, text_of}
-use Rattle.sz_json.specs.Name.{name_text}
 use Rattle.sz_json.specs.Object.{members_of}
 use Rattle.sz_json.specs.declared.name.Name.TheVariants as name
 use Rattle.sz_conveyed.proofs.Addresses.{host_of-host, IsAddress-host_of}

@@ -24,6 +24,7 @@ pub host_is_utf8 : (host : List ℕ) → IsHost host → IsUtf8 host
 host_is_utf8 host h = elim h [
   | inl name ↦ IsUtf8-from_ascii host (name_ascii host name.allowed)
   | inr brackets ↦
-      let within : IsAscii (in_brackets brackets.0) = IsAscii-cons 91 (brackets.0 ++ 93 ∷ []) (omega arith) (IsAscii-push brackets.0 93 (ipv6_ascii brackets.0 brackets.2.allowed) (omega arith)) in
+      let within : IsAscii (in_brackets brackets.0) =
+      IsAscii-cons 91 (brackets.0 ++ 93 ∷ []) (omega arith) (IsAscii-push brackets.0 93 (ipv6_ascii brackets.0 brackets.2.allowed) (omega arith)) in
       IsUtf8-from_ascii host (rw brackets.1 within)
 ]

@@ -4,7 +4,7 @@ use Rattle.std.specs.List.{list_all}
 use Rattle.std.specs.Str.{bytes_eq}
 use Rattle.serde_json.specs.Data.{Data}
 use Rattle.sz_base.specs.Byte.{is_colon}
-use Rattle.sz_base.specs.Host.{in_brackets, is_ipv6_byte, is_name_byte, IsHost, IsIpv6Text}
+use Rattle.sz_base.specs.Host.{in_brackets, is_ipv6_byte, is_name_byte, IsHost}
 use Rattle.sz_json.specs.Form.{text_of}
 
 -- the text is this host, which it names as it stands, or without the brackets of an IPv6 text
@@ -18,7 +18,8 @@ is_name text = nat_le 1 (length text) && (nat_le (length text) 255 && list_all i
 
 abbrev pub is_ipv6_text : List ℕ → Bool
 is_ipv6_text text =
-    nat_le 2 (length text) && (nat_le (length text) 45 && (list_all is_ipv6_byte text && nat_le 2 (count_by is_colon text)))
+    nat_le 2 (length text)
+    && (nat_le (length text) 45 && (list_all is_ipv6_byte text && nat_le 2 (count_by is_colon text)))
 
 -- the text between the first byte and the last
 abbrev pub inner : List ℕ → List ℕ

@@ -1,5 +1,5 @@
 -- The hash of a boot image (RFC 8572 section 6.3): 32 bytes as pairs of hexadecimal digits, joined by colons.
-use Rattle.std.specs.Prelude.{ℕ, ◌+◌, ◌*◌, ◌/◌, ◌%◌, ◌||◌, ◌==◌, Bool, if◌then◌else◌, List, [], ◌∷◌, ◌++◌, length, Option, Some, None, option_and_then, option_map, codes}
+use Rattle.std.specs.Prelude.{ℕ, ◌+◌, ◌*◌, ◌||◌, ◌==◌, Bool, if◌then◌else◌, List, [], ◌∷◌, length, Option, None, option_and_then, option_map, codes}
 use Rattle.std.specs.Str.{bytes_eq}
 use Rattle.hex.specs.Hex.{hex_digit_value}
 use Rattle.serde_json.specs.Data.{Data}
@@ -15,7 +15,8 @@ pairs_of [] = None
 pairs_of (high ∷ []) = None
 pairs_of (high ∷ low ∷ []) = option_map (λ byte. byte ∷ []) (pair_of high low)
 pairs_of (high ∷ low ∷ colon ∷ rest) =
-    if colon == 58 then option_and_then (λ byte. option_map (λ bytes. byte ∷ bytes) (pairs_of rest)) (pair_of high low) else None
+    if colon == 58
+    then option_and_then (λ byte. option_map (λ bytes. byte ∷ bytes) (pairs_of rest)) (pair_of high low) else None
 
 -- the bytes of 32 pairs
 unfoldable pub hash_of_text : List ℕ → Option (List ℕ)

@@ -9,7 +9,8 @@ ghost use Rattle.sz_conveyed.specs.Conveyed.{conveyed_fault, IsConveyed};
 ghost use Rattle.sz_conveyed.specs.Hash.{hash_of_text};
 ghost use Rattle.sz_conveyed.specs.declared.conveyed.Conveyed.{Conveyed};
 
-/// An address names a host: each host names itself, an IPv6 text names the host of its brackets, and no text names another.
+/// An address names a host: each host names itself, an IPv6 text names the host of its brackets, and no text
+/// names another.
 pub fn addresses_are_hosts()
     ensures host { (text : List ℕ) → IsHost text → host_of text ≡ Some text }
     ensures ipv6 { (text : List ℕ) → IsIpv6Text text → host_of text ≡ Some (in_brackets text) }
@@ -23,7 +24,8 @@ pub fn hashes_are_pairs()
 
 /// A value that is read as conveyed information has no member at fault, and is read as no other.
 pub fn read_information_has_no_fault()
-    ensures no_fault { (value : Data) (conveyed : Conveyed) → IsConveyed value conveyed → conveyed_fault value ≡ None }
-    ensures one_reading { (value : Data) (conveyed other : Conveyed) → IsConveyed value conveyed → IsConveyed value other
-        → conveyed ≡ other }
+    ensures no_fault { (value : Data) (conveyed : Conveyed) → IsConveyed value conveyed
+        → conveyed_fault value ≡ None }
+    ensures one_reading { (value : Data) (conveyed other : Conveyed) → IsConveyed value conveyed
+        → IsConveyed value other → conveyed ≡ other }
 {}

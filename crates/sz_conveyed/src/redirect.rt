@@ -39,7 +39,8 @@ pub(crate) fn read_redirect(alloc: Global, value: &Value) -> Result<Targets, Jso
 fn servers<'v>(information: &'v Value) -> Result<&'v [Value], JsonFault>
     ensures ok { IfOk result (λ servers. required some_list_of Name.BootstrapServer (view information.now)
         ≡ Ok (items_view servers.now)) }
-    ensures refused { IfErr result (IsFault (fault_of (required some_list_of Name.BootstrapServer (view information.now)))) }
+    ensures refused { IfErr result (IsFault (fault_of (required some_list_of Name.BootstrapServer
+        (view information.now)))) }
 {
     let Some(member) = member(information, Name::BootstrapServer)? else {
         return Err(BAD_LIST);
@@ -52,8 +53,10 @@ fn servers<'v>(information: &'v Value) -> Result<&'v [Value], JsonFault>
 
 #[tactic(auto, using(std::proofs::lemmas::List::nil_from_length))]
 fn not_empty(servers: &[Value]) -> Result<&[Value], JsonFault>
-    ensures ok { IfOk result (λ some. (some.now ≡ servers.now) × (if_some (items_view servers.now) ≡ Some (items_view servers.now))) }
-    ensures refused { IfErr result (λ fault. (fault ≡ JsonFault.Member Name.BootstrapServer) × (if_some (items_view servers.now) ≡ None)) }
+    ensures ok { IfOk result (λ some. (some.now ≡ servers.now)
+        × (if_some (items_view servers.now) ≡ Some (items_view servers.now))) }
+    ensures refused { IfErr result (λ fault. (fault ≡ JsonFault.Member Name.BootstrapServer)
+        × (if_some (items_view servers.now) ≡ None)) }
 {
     match servers.split_first() {
         Some(_) => Ok(servers),
