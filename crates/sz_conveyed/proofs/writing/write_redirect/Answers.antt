@@ -1,0 +1,18 @@
+use Rattle.std.proofs.Common.{arith}
+use Rattle.std.proofs.lemmas.Result.{IfOk-weaker}
+use Rattle.sz_conveyed.proofs.RedirectBack.{redirect_reads_back}
+use Rattle.sz_conveyed.proofs.Plain.{plain_redirect}
+use Rattle.sz_conveyed.specs.Written.{redirect_value}
+use Rattle.sz_conveyed.proofs.writing.write_redirect.Goals as goal
+
+pub returns-clause-written : goal.returns-clause-written
+returns-clause-written c =
+    let plain = plain_redirect c.args.targets.now in
+    let compact = rw c.in_ok-value.ensures at c.write.ensures.compact in
+    IfOk-weaker c.write.result _ _ (λ bytes h. h plain.no_float) compact
+
+pub returns-clause-reads_back : goal.returns-clause-reads_back
+returns-clause-reads_back c =
+    let plain = plain_redirect c.args.targets.now in
+    let again = rw c.in_ok-value.ensures at c.write.ensures.reads_back in
+    IfOk-weaker c.write.result _ _ (λ bytes h value is. (redirect_value c.args.targets.now, h (omega (arith, plain.shallow)), redirect_reads_back value c.args.targets.now is.1)) again

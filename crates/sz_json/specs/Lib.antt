@@ -1,0 +1,6 @@
+pub mod Name
+pub mod Json
+pub mod Form
+pub mod Member
+pub mod Fault
+pub mod Object

@@ -1,0 +1,10 @@
+//! Laws of the forms.
+
+ghost use Rattle.std.specs.Prelude.{◌≡◌, ◌↔◌, List, ℕ, Some};
+ghost use Rattle.sz_base.specs.Encoding.{IsBase64};
+ghost use Rattle.sz_json.specs.Form.{base64_of};
+
+/// The text of a member of bytes is base64 by RFC 4648 section 4: of these bytes, and of no others.
+pub fn binary_is_base64()
+    ensures { (text bytes : List ℕ) → (base64_of text ≡ Some bytes) ↔ IsBase64 text bytes }
+{}

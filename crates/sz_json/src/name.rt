@@ -1,0 +1,136 @@
+//! The names of the members that this product reads or writes.
+
+ghost use Rattle.std.specs.Prelude.{◌≡◌};
+
+/// The name of a JSON member, or `Json` for a whole text.
+#[derive(Clone, Copy, Debug, PartialEq, Eq)]
+pub enum Name {
+    /// A whole text that is no JSON, or no object of the wanted kind.
+    Json,
+    // of a voucher (RFC 8366 section 5.3)
+    Voucher,
+    CreatedOn,
+    ExpiresOn,
+    Assertion,
+    SerialNumber,
+    IdevidIssuer,
+    PinnedDomainCert,
+    DomainCertRevocationChecks,
+    Nonce,
+    LastRenewalDate,
+    // of conveyed information (RFC 8572 section 6.3)
+    RedirectInformation,
+    BootstrapServer,
+    Address,
+    Port,
+    TrustAnchor,
+    OnboardingInformation,
+    BootImage,
+    OsName,
+    OsVersion,
+    DownloadUri,
+    ImageVerification,
+    HashAlgorithm,
+    HashValue,
+    ConfigurationHandling,
+    PreConfigurationScript,
+    Configuration,
+    PostConfigurationScript,
+    // of the request and the reply of get-bootstrapping-data (RFC 8572 section 7.3)
+    Input,
+    SignedDataPreferred,
+    Output,
+    ConveyedInformation,
+    OwnerCertificate,
+    OwnershipVoucher,
+    // of an identity file
+    Serial,
+    Anchors,
+    // of a plan file
+    Signers,
+    Id,
+    Key,
+    Subject,
+    Issuer,
+    NotBefore,
+    NotAfter,
+    Ca,
+    PathLength,
+    PlanVoucher,
+    Signer,
+    Pinned,
+    Owner,
+    Serials,
+    Onboarding,
+    Revocation,
+    ThisUpdate,
+    NextUpdate,
+    Revoked,
+}
+
+impl Name {
+    ghost use Rattle.sz_json.specs.Name.{name_text};
+
+    /// The member's name as a text.
+    pub fn as_str(self) -> &'static str
+        ensures { result.now ≡ name_text self }
+    {
+        match self {
+            Name::Json => "json",
+            Name::Voucher => "ietf-voucher:voucher",
+            Name::CreatedOn => "created-on",
+            Name::ExpiresOn => "expires-on",
+            Name::Assertion => "assertion",
+            Name::SerialNumber => "serial-number",
+            Name::IdevidIssuer => "idevid-issuer",
+            Name::PinnedDomainCert => "pinned-domain-cert",
+            Name::DomainCertRevocationChecks => "domain-cert-revocation-checks",
+            Name::Nonce => "nonce",
+            Name::LastRenewalDate => "last-renewal-date",
+            Name::RedirectInformation => "ietf-sztp-conveyed-info:redirect-information",
+            Name::BootstrapServer => "bootstrap-server",
+            Name::Address => "address",
+            Name::Port => "port",
+            Name::TrustAnchor => "trust-anchor",
+            Name::OnboardingInformation => "ietf-sztp-conveyed-info:onboarding-information",
+            Name::BootImage => "boot-image",
+            Name::OsName => "os-name",
+            Name::OsVersion => "os-version",
+            Name::DownloadUri => "download-uri",
+            Name::ImageVerification => "image-verification",
+            Name::HashAlgorithm => "hash-algorithm",
+            Name::HashValue => "hash-value",
+            Name::ConfigurationHandling => "configuration-handling",
+            Name::PreConfigurationScript => "pre-configuration-script",
+            Name::Configuration => "configuration",
+            Name::PostConfigurationScript => "post-configuration-script",
+            Name::Input => "ietf-sztp-bootstrap-server:input",
+            Name::SignedDataPreferred => "signed-data-preferred",
+            Name::Output => "ietf-sztp-bootstrap-server:output",
+            Name::ConveyedInformation => "conveyed-information",
+            Name::OwnerCertificate => "owner-certificate",
+            Name::OwnershipVoucher => "ownership-voucher",
+            Name::Serial => "serial",
+            Name::Anchors => "anchors",
+            Name::Signers => "signers",
+            Name::Id => "id",
+            Name::Key => "key",
+            Name::Subject => "subject",
+            Name::Issuer => "issuer",
+            Name::NotBefore => "not-before",
+            Name::NotAfter => "not-after",
+            Name::Ca => "ca",
+            Name::PathLength => "path-length",
+            Name::PlanVoucher => "voucher",
+            Name::Signer => "signer",
+            Name::Pinned => "pinned",
+            Name::Owner => "owner",
+            Name::Serials => "serials",
+            Name::Onboarding => "onboarding",
+            Name::Revocation => "revocation",
+            Name::ThisUpdate => "this-update",
+            Name::NextUpdate => "next-update",
+            Name::Revoked => "revoked",
+        }
+    }
+}

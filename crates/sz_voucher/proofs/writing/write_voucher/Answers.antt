@@ -1,0 +1,29 @@
+use Rattle.std.proofs.Common.{option_map, string_bytes, arith}
+use Rattle.std.proofs.lemmas.Result.{IfOk-weaker}
+use Rattle.sz_voucher.proofs.Plain.{plain_voucher}
+use Rattle.sz_voucher.proofs.ReadsBack.{voucher_reads_back}
+use Rattle.sz_voucher.specs.Written.{voucher_value}
+use Rattle.sz_voucher.proofs.writing.write_voucher.Goals as goal
+
+pub returns-clause-written : goal.returns-clause-written
+returns-clause-written c =
+    let created = string_bytes c.in_ok-created.created in
+    let end = option_map string_bytes c.in_ok-end.end in
+    let plain = plain_voucher c.args.voucher.now created end in
+    let compact = rw c.in_ok-value.ensures at c.write.ensures.compact in
+    IfOk-weaker c.write.result _ _ (λ bytes h. (created, end, c.in_ok-created.ensures, c.in_ok-end.ensures, h plain.no_float)) compact
+
+pub returns-clause-reads_back : goal.returns-clause-reads_back
+returns-clause-reads_back c =
+    let voucher = c.args.voucher.now in
+    let created = string_bytes c.in_ok-created.created in
+    let end = option_map string_bytes c.in_ok-end.end in
+    let plain = plain_voucher voucher created end in
+    let again = rw c.in_ok-value.ensures at c.write.ensures.reads_back in
+    IfOk-weaker c.write.result _ _
+    (λ bytes h value is. (
+      voucher_value voucher created end,
+      h (omega (arith, plain.shallow)),
+      voucher_reads_back value voucher created end is c.requires.created_on c.requires.expires_on c.in_ok-created.ensures c.in_ok-end.ensures,
+    ))
+    again

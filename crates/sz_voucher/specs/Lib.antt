@@ -1,0 +1,4 @@
+pub mod Assertion
+pub mod Voucher
+pub mod Judgement
+pub mod Written

@@ -1,0 +1,21 @@
+//! Laws of vouchers.
+
+ghost use Rattle.std.specs.Prelude.{◌≡◌, ◌↔◌, List, ℕ, None, Ok};
+ghost use Rattle.serde_json.specs.Data.{Data};
+ghost use Rattle.sz_base.specs.declared.moment.Moment.{Moment};
+ghost use Rattle.sz_voucher.specs.Judgement.{Fits, judgement};
+ghost use Rattle.sz_voucher.specs.Voucher.{IsVoucher, voucher_fault};
+ghost use Rattle.sz_voucher.specs.declared.voucher.Voucher.{Voucher};
+
+/// A voucher is judged without a fault exactly where it fits the device and the moment.
+pub fn judged_vouchers_fit()
+    ensures { (voucher : Voucher) (serial : List ℕ) (when : Moment)
+        → (judgement voucher serial when ≡ Ok tt) ↔ Fits voucher serial when }
+{}
+
+/// A value that is read as a voucher has no member at fault, and is read as no other voucher.
+pub fn a_read_voucher_has_no_fault()
+    ensures no_fault { (value : Data) (voucher : Voucher) → IsVoucher value voucher → voucher_fault value ≡ None }
+    ensures one_voucher { (value : Data) (voucher other : Voucher) → IsVoucher value voucher → IsVoucher value other
+        → voucher ≡ other }
+{}
