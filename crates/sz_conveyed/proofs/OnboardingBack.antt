@@ -200,8 +200,10 @@ information_back information onboarding h = record {
   boot_image = optional-members_of object_of name.BootImage (information_members onboarding) (option_map image_value onboarding.image) (λ value. value)
       (or_before-None _ ∙ sym (map_same _)) (λ value e. object_at onboarding.image value e);
   of_image = image_where_back h.image onboarding.image h.of_image;
-  handling =
-      required-members_of handling_of name.ConfigurationHandling (information_members onboarding) onboarding.handling (handling_back onboarding.handling);
+  named = Some onboarding.handling;
+  handling = optional-members_of handling_of name.ConfigurationHandling (information_members onboarding) (Some onboarding.handling)
+      (λ handling. string (handling_text handling)) refl (λ handling e. handling_back handling);
+  or_default = refl;
   pre = optional-members_of binary_of name.PreConfigurationScript (information_members onboarding) onboarding.pre binary_value (or_before-None _)
       (script_back name.PreConfigurationScript information onboarding.pre h.pre);
   configuration = optional-members_of binary_of name.Configuration (information_members onboarding) onboarding.configuration binary_value (or_before-None _)

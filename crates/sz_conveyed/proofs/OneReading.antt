@@ -89,7 +89,9 @@ one_information : (information : Data) (onboarding other : Onboarding) → IsInf
 one_information information onboarding other h g =
     let same : g.image ≡ h.image = cc in
     let image = one_image_where h.image onboarding.image other.image h.of_image (subst (λ value. IsImageWhere value other.image) same g.of_image) in
-    onboarding_parts onboarding other.image other.handling other.pre other.configuration other.post image (cc) (cc) (cc) (cc)
+    let named : h.named ≡ g.named = cc in
+    let handling : onboarding.handling ≡ other.handling = cc in
+    onboarding_parts onboarding other.image other.handling other.pre other.configuration other.post image handling (cc) (cc) (cc)
 
 one_onboarding : (value : Data) (onboarding other : Onboarding) → IsOnboarding value onboarding → IsOnboarding value other → onboarding ≡ other
 one_onboarding value onboarding other h g =

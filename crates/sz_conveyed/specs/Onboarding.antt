@@ -1,5 +1,5 @@
 -- Onboarding information (RFC 8572 sections 2.2 and 6.3): what the device boots, is configured with and runs.
-use Rattle.std.specs.Prelude.{◌≡◌, ℕ, if◌then◌else◌, List, [], ◌∷◌, Option, Some, None, option_and_then, Ok, codes, ⊤}
+use Rattle.std.specs.Prelude.{◌≡◌, ℕ, if◌then◌else◌, List, [], ◌∷◌, Option, Some, None, option_and_then, unwrap_or, Ok, codes, ⊤}
 use Rattle.std.specs.Str.{bytes_eq}
 use Rattle.serde_json.specs.Data.{Data}
 use Rattle.sz_json.specs.Fault.{fault_of, first_inside, first_of}
@@ -26,6 +26,10 @@ handling_of_text text =
 abbrev pub handling_of : Data → Option Handling
 handling_of value = option_and_then handling_of_text (text_of value)
 
+-- how the configuration is taken by information that does not say it
+abbrev pub default_handling : Handling
+default_handling = Replace
+
 -- a boot image where there is one
 abbrev pub IsImageWhere : Option Data → Option BootImage → Type 0
 IsImageWhere None None = ⊤
@@ -36,9 +40,11 @@ IsImageWhere (Some value) (Some image) = IsBootImage value image
 -- the information inside the top member
 pub record IsInformation (information : Data) (onboarding : Onboarding) : Type 0 where
   pub image : Option Data
+  pub named : Option Handling
   pub boot_image : optional object_of name.BootImage information ≡ Ok image
   pub of_image : IsImageWhere image onboarding.image
-  pub handling : required handling_of name.ConfigurationHandling information ≡ Ok onboarding.handling
+  pub handling : optional handling_of name.ConfigurationHandling information ≡ Ok named
+  pub or_default : onboarding.handling ≡ unwrap_or named default_handling
   pub pre : optional binary_of name.PreConfigurationScript information ≡ Ok onboarding.pre
   pub configuration : optional binary_of name.Configuration information ≡ Ok onboarding.configuration
   pub post : optional binary_of name.PostConfigurationScript information ≡ Ok onboarding.post
@@ -58,7 +64,7 @@ image_fault_where (Some value) = image_fault value
 abbrev pub information_fault : Data → Option Name
 information_fault information = first_of (
     first_inside (optional object_of name.BootImage information) image_fault_where
-    ∷ fault_of (required handling_of name.ConfigurationHandling information)
+    ∷ fault_of (optional handling_of name.ConfigurationHandling information)
     ∷ fault_of (optional binary_of name.PreConfigurationScript information)
     ∷ fault_of (optional binary_of name.Configuration information)
     ∷ fault_of (optional binary_of name.PostConfigurationScript information)

@@ -6,7 +6,7 @@ ghost use Rattle.serde_json.specs.Data.{Data};
 ghost use Rattle.serde_json.specs.View.{view};
 ghost use Rattle.sz_json.specs.Fault.{fault_of, first_inside, IsFault};
 ghost use Rattle.sz_json.specs.Form.{object_of};
-ghost use Rattle.sz_json.specs.Member.{optional, required};
+ghost use Rattle.sz_json.specs.Member.{optional};
 ghost use Rattle.sz_json.specs.declared.name.Name.{Name};
 ghost use Rattle.sz_conveyed.specs.Onboarding.{handling_of, handling_of_text, image_fault_where, information_fault, IsImageWhere, IsInformation, IsOnboarding, onboarding_fault};
 
@@ -35,13 +35,13 @@ fn inside(alloc: Global, information: &Value) -> Result<Onboarding, JsonFault>
     ensures refused { IfErr result (IsFault (information_fault (view information.now))) }
 {
     let image = boot_image(alloc, information)?;
-    let handling = handling(information)?;
+    let named = handling(information)?;
     let pre = binary(alloc, information, Name::PreConfigurationScript)?;
     let configuration = binary(alloc, information, Name::Configuration)?;
     let post = binary(alloc, information, Name::PostConfigurationScript)?;
     Ok(Onboarding {
         image,
-        handling,
+        handling: named.unwrap_or(Handling::Replace),
         pre,
         configuration,
         post,
@@ -64,17 +64,18 @@ fn boot_image(alloc: Global, information: &Value) -> Result<Option<BootImage>, J
     }
 }
 
-fn handling(information: &Value) -> Result<Handling, JsonFault>
-    ensures ok { IfOk result (λ handling. required handling_of Name.ConfigurationHandling (view information.now)
-        ≡ Ok handling) }
-    ensures refused { IfErr result (IsFault (fault_of (required handling_of Name.ConfigurationHandling
+// how the configuration is taken, if the information says it
+fn handling(information: &Value) -> Result<Option<Handling>, JsonFault>
+    ensures ok { IfOk result (λ named. optional handling_of Name.ConfigurationHandling (view information.now)
+        ≡ Ok named) }
+    ensures refused { IfErr result (IsFault (fault_of (optional handling_of Name.ConfigurationHandling
         (view information.now)))) }
 {
     let Some(member) = member(information, Name::ConfigurationHandling)? else {
-        return Err(BAD_HANDLING);
+        return Ok(None);
     };
     match in_text(member.as_str()) {
-        Some(handling) => Ok(handling),
+        Some(handling) => Ok(Some(handling)),
         None => Err(BAD_HANDLING),
     }
 }

@@ -147,7 +147,11 @@ fn faults_of_redirects(rt: HostRuntime) -> Result<(), JsonFault> {
 fn faults_of_onboarding(rt: HostRuntime) -> Result<(), JsonFault> {
     for (inside, want) in [
         ("[]", Some(Name::OnboardingInformation)),
-        ("{}", Some(Name::ConfigurationHandling)),
+        ("{}", None),
+        (
+            r#"{"configuration-handling":null}"#,
+            Some(Name::ConfigurationHandling),
+        ),
         (
             r#"{"configuration-handling":"Merge"}"#,
             Some(Name::ConfigurationHandling),
