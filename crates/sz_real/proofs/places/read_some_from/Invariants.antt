@@ -1,0 +1,6 @@
+-- An interrupted read changed nothing.
+use Rattle.std.proofs.Common.{◌≡◌}
+use Rattle.sz_real.proofs.places.read_some_from.Given as goal
+
+abbrev pub invariant-loop : goal.invariant-loop
+invariant-loop g l = g.F.PositionedFile.held l.file ≡ g.F.PositionedFile.held l.initial.file
