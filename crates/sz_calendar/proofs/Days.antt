@@ -41,7 +41,7 @@ pub sum_of_months-more : (year : ℤ) (n : ℕ) → n < 12 →
 sum_of_months-more year n below =
     let within : n < length (month_lengths year) = omega arith in
     let next : take (suc n) (month_lengths year) ≡ take n (month_lengths year) ++ get_or (month_lengths year) n 0 ∷ [] =
-        rw add-one at (take_more (month_lengths year) n 0 within) in
+    rw add-one at (take_more (month_lengths year) n 0 within) in
     ap sum next ∙ sum_by_push (λ x. x) (take n (month_lengths year)) (get_or (month_lengths year) n 0)
 
 days_of_months-is : (year : ℤ) (n : ℕ) → n < 12 → days_of_months year n ≡ sum (take n (month_lengths year))
@@ -135,7 +135,7 @@ unix_day-injective year other_year month other_month day other_day is other same
     let a = jiff_date year month day is in
     let b = jiff_date other_year other_month other_day other in
     let parts = epoch_day_injective (jiff_date year month day is) (jiff_date other_year other_month other_day other)
-        (epoch_day-is (jiff_date year month day is) ∙ same ∙ sym (epoch_day-is (jiff_date other_year other_month other_day other))) in
+    (epoch_day-is (jiff_date year month day is) ∙ same ∙ sym (epoch_day-is (jiff_date other_year other_month other_day other))) in
     record { year = parts.0; month = parts.1; day = parts.2 }
 
 -- ---- one after another
@@ -146,8 +146,14 @@ year_at year low = omega (arith, signed_arith, unsigned_abs-parts (year -ℤ sta
 
 place_of_next : (year : ℤ) → start_year ≤ℤ year → unsigned_abs (year +ℤ pos 1 -ℤ start_year) ≡ suc (unsigned_abs (year -ℤ start_year))
 place_of_next year low =
-    omega (arith, signed_arith, unsigned_abs-parts (year -ℤ start_year), one_part (year -ℤ start_year),
-        unsigned_abs-parts (year +ℤ pos 1 -ℤ start_year), one_part (year +ℤ pos 1 -ℤ start_year))
+    omega (
+      arith,
+      signed_arith,
+      unsigned_abs-parts (year -ℤ start_year),
+      one_part (year -ℤ start_year),
+      unsigned_abs-parts (year +ℤ pos 1 -ℤ start_year),
+      one_part (year +ℤ pos 1 -ℤ start_year),
+    )
 
 days_before_year-next : (year : ℤ) → start_year ≤ℤ year → days_before_year (year +ℤ pos 1) ≡ days_before_year year + year_length year
 unfolding days_of_years

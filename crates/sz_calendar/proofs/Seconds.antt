@@ -43,16 +43,16 @@ one_time seconds time other is is_other =
     let other_below = second_of_day-bound other is_other.real in
     let same : unix_seconds time ≡ unix_seconds other = is.at ∙ sym is_other.at in
     let days = same_day (unix_day time.year time.month time.day) (unix_day other.year other.month other.day) (second_of_day time)
-        (second_of_day other) below other_below same in
+    (second_of_day other) below other_below same in
     let clock : second_of_day time ≡ second_of_day other =
-        same_second (unix_day time.year time.month time.day) (unix_day other.year other.month other.day) (second_of_day time) (second_of_day other)
-        below other_below same in
+    same_second (unix_day time.year time.month time.day) (unix_day other.year other.month other.day) (second_of_day time) (second_of_day other)
+    below other_below same in
     let date = unix_day-injective time.year other.year time.month other.month time.day other.day is.real.date is_other.real.date days in
     let r = is.real in
     let s = is_other.real in
     same_parts time other.year other.month other.day other.hour other.minute other.second date.year date.month date.day
-        (omega (arith, r.minute, r.second, s.minute, s.second)) (omega (arith, r.minute, r.second, s.minute, s.second))
-        (omega (arith, r.minute, r.second, s.minute, s.second))
+    (omega (arith, r.minute, r.second, s.minute, s.second)) (omega (arith, r.minute, r.second, s.minute, s.second))
+    (omega (arith, r.minute, r.second, s.minute, s.second))
 
 -- the date and the time of a second of a day
 pub time_on_day : (date : Date) (second : ℕ) → second < 86400 →

@@ -1,5 +1,5 @@
 -- What a state of a cell says stays true while nobody writes in its region.
-use Rattle.std.specs.Prelude.{◌≡◌, ◌⊎◌, ℕ, ◌+◌, ◌-◌, ◌≤◌, List, Some}
+use Rattle.std.specs.Prelude.{◌≡◌, ℕ, ◌+◌, ◌-◌, List}
 use Rattle.std.proofs.Common.{sym, ◌∙◌, ap, subst, arith, inl, inr}
 use Rattle.std.proofs.lemmas.Option.{same_Some}
 use Rattle.sz_disk.specs.Disk.{Seen, IsLawful, TornIn}

@@ -1,8 +1,8 @@
 -- What a read tells of a region.
-use Rattle.std.specs.Prelude.{◌≡◌, ℕ, ◌+◌, ◌≤◌, ◌<◌, List, [], length, replicate, Option, Some, None, Result, Ok}
+use Rattle.std.specs.Prelude.{◌≡◌, ℕ, ◌+◌, ◌≤◌, ◌<◌, List, [], length, replicate, Option, Some, None, Ok}
 use Rattle.std.proofs.Common.{refl, sym, ◌∙◌, ap, subst, arith, inl, inr}
 use Rattle.std.proofs.lemmas.List.{length-replicate}
-use Rattle.std.proofs.lemmas.Option.{none-some, same_Some}
+use Rattle.std.proofs.lemmas.Option.{same_Some}
 use Rattle.sz_disk.specs.Disk.{Seen, IsLawful, IsSynced, ReadsPart}
 use Rattle.sz_disk.specs.Image.{part}
 use Rattle.sz_disk.proofs.Moments.{length-read}
@@ -11,7 +11,6 @@ use Rattle.sz_cell.specs.Header.{HeaderRead, Judges, slot_with}
 use Rattle.sz_cell.specs.Meaning.{Meaning, value, meaning, meaning_of}
 use Rattle.sz_cell.specs.Slot.{Slot, slot_of, slot_in, place, header_size, slot_size, region_size}
 use Rattle.sz_cell.specs.Transition.{IsAttached}
-use Rattle.sz_cell.specs.declared.fault.AttachFault.{AttachFault}
 use Rattle.sz_cell.specs.declared.header.Header.{Header}
 use Rattle.sz_cell.proofs.Regions.{place_inside}
 use Rattle.sz_cell.proofs.Slots.{header_front, payload_part, length-payload}

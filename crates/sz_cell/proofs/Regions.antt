@@ -1,5 +1,5 @@
 -- Where the slots of a region lie, and what a change elsewhere leaves of them.
-use Rattle.std.specs.Prelude.{◌≡◌, ◌⊎◌, ℕ, ◌+◌, ◌-◌, ◌*◌, ◌≤◌, ◌<◌, List}
+use Rattle.std.specs.Prelude.{◌≡◌, ◌⊎◌, ℕ, ◌+◌, ◌-◌, ◌≤◌, ◌<◌, List}
 use Rattle.std.proofs.Common.{zero, suc, refl, sym, ◌∙◌, ap, arith, inl, inr}
 use Rattle.sz_disk.specs.Image.{part, ChangedIn}
 use Rattle.sz_disk.proofs.Parts.{part-part, part-outside}

@@ -1,13 +1,13 @@
 -- What the calls of a cell make of what its states say.
-use Rattle.std.specs.Prelude.{◌≡◌, ◌≢◌, ◌⊎◌, ℕ, ◌+◌, ◌-◌, ◌≤◌, ◌<◌, ◌^◌, List, [], ◌∷◌, length, slice_index, Option, Some, None, Result, Ok}
+use Rattle.std.specs.Prelude.{◌≡◌, ◌≢◌, ℕ, ◌+◌, ◌-◌, ◌≤◌, ◌<◌, ◌^◌, List, [], ◌∷◌, length, slice_index, Option, Some, None, Result, Ok}
 use Rattle.std.proofs.Common.{refl, sym, ◌∙◌, ap, subst, arith, inl, inr}
 use Rattle.std.proofs.lemmas.Bool.{cases_eq}
 use Rattle.std.proofs.lemmas.Option.{none-some, same_Some}
 use Rattle.sz_disk.specs.Disk.{Seen, IsLawful, IsQuiet, IsSettled, LeavesOnly, TornIn}
 use Rattle.sz_disk.specs.Image.{TornFrom}
 use Rattle.sz_disk.proofs.Moments.{length-read, still-leaves, torn-leaves, leaves-weaker, leaves-now}
-use Rattle.sz_cell.specs.Cell.{Kept, Pending, Means, MeansNext, MeansEither, IsReady, IsCleared, IsFilled, spare, spare_place, next_of, AsRead}
-use Rattle.sz_cell.specs.Slot.{Slot, IsSpelled, open_gate, closed_gate, spelled, slot_in, header_size}
+use Rattle.sz_cell.specs.Cell.{Kept, Pending, Means, MeansEither, IsReady, IsCleared, IsFilled, spare, spare_place, next_of}
+use Rattle.sz_cell.specs.Slot.{Slot, IsSpelled, open_gate, closed_gate, spelled, header_size}
 use Rattle.sz_cell.specs.Write.{Wrote, ClosesGate}
 use Rattle.sz_cell.proofs.Regions.{slot_in-region}
 use Rattle.sz_cell.proofs.Slots.{gate_at, gate_written, slot_written, length-spelled}

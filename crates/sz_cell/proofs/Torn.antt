@@ -1,10 +1,10 @@
 -- What a write to the other slot leaves of the value that stands, in one image: also while it is torn.
-use Rattle.std.specs.Prelude.{◌≡◌, ◌≢◌, ◌⊎◌, ℕ, ◌+◌, ◌-◌, ◌≤◌, ◌<◌, List, length}
+use Rattle.std.specs.Prelude.{◌≡◌, ◌≢◌, ℕ, ◌+◌, ◌-◌, ◌≤◌, ◌<◌, List, length}
 use Rattle.std.proofs.Common.{sym, ◌∙◌, ap, subst, arith, inl, inr}
 use Rattle.std.proofs.lemmas.Bool.{cases_eq}
 use Rattle.sz_disk.specs.Image.{ChangedIn}
 use Rattle.sz_cell.specs.Cell.{Kept, Means, MeansNext, MeansEither, spare, spare_place}
-use Rattle.sz_cell.specs.Meaning.{value, meaning}
+use Rattle.sz_cell.specs.Meaning.{value}
 use Rattle.sz_cell.specs.Slot.{Slot, IsSpelled, open_gate, slot_in, header_size}
 use Rattle.sz_cell.proofs.Regions.{mine_kept}
 use Rattle.sz_cell.proofs.Slots.{gate_torn, gate_kept}

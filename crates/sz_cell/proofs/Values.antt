@@ -4,7 +4,7 @@ use Rattle.std.proofs.Common.{zero, suc, sym, ◌∙◌, subst, arith, inl, inr}
 use Rattle.std.proofs.lemmas.Bool.{cases_Bool, cond-true, cond-false}
 use Rattle.std.proofs.lemmas.Bool.Decides.{nat_tests}
 use Rattle.sz_cell.specs.Slot.{Slot, open_gate, slot_in}
-use Rattle.sz_cell.specs.Meaning.{Meaning, none, damaged, value, is_damaged, is_newest, meaning_of, meaning}
+use Rattle.sz_cell.specs.Meaning.{none, damaged, value, is_damaged, is_newest, meaning_of, meaning}
 
 -- the slot is open and whole, and the other one is closed, or whole and older
 pub record HasValue (capacity : ℕ) (mine other : Slot) : Type 0 where

@@ -1,7 +1,7 @@
-use Rattle.std.proofs.Common.{◌≡◌, ◌+◌, ◌∷◌, refl, ◌∙◌, arith}
+use Rattle.std.proofs.Common.{◌≡◌, ◌∷◌, refl, ◌∙◌, arith}
 use Rattle.sz_disk.proofs.Moments.{torn-torn, still-torn}
 use Rattle.sz_cell.specs.Slot.{place, open_gate, spelled}
-use Rattle.sz_cell.proofs.Fresh.{still-any_moment, behind-any_moment, gate-any_moment, first-ready}
+use Rattle.sz_cell.proofs.Fresh.{behind-any_moment, gate-any_moment, first-ready}
 use Rattle.sz_cell.proofs.Regions.{place_inside, place_zero}
 use Rattle.sz_cell.proofs.Slots.{length-spelled}
 use Rattle.sz_cell.proofs.Writes.{writes-refused, torn-gate, torn-behind, wrote-gate, quiet-wrote}

@@ -1,5 +1,3 @@
-use Rattle.std.proofs.Common.{subst, sym}
-use Rattle.sz_cell.specs.Header.{HeaderRead}
 use Rattle.sz_cell.proofs.slot.read_headers.Goals as goal
 
 pub returns-clause-headers : goal.returns-clause-headers

@@ -1,5 +1,5 @@
 use Rattle.std.proofs.Common.{◌≡◌, ◌∙◌, ap, arith}
-use Rattle.sz_cell.specs.Cell.{Pending, IsReady, next_of, spare_place}
+use Rattle.sz_cell.specs.Cell.{Pending, spare_place}
 use Rattle.sz_cell.proofs.Regions.{spare_inside}
 use Rattle.sz_cell.proofs.States.{publish-any_moment, publish-ok}
 use Rattle.sz_cell.proofs.Writes.{on_ok-refused}

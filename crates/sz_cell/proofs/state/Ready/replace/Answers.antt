@@ -1,7 +1,7 @@
-use Rattle.std.proofs.Common.{◌≡◌, ◌+◌, Err, ◌∷◌, length, sym, ◌∙◌, ap, arith}
+use Rattle.std.proofs.Common.{◌≡◌, ◌+◌, Err, ◌∷◌, length, ◌∙◌, ap, arith}
 use Rattle.std.proofs.lemmas.Result.{err_from_is_err_and}
 use Rattle.sz_disk.proofs.Moments.{torn-torn}
-use Rattle.sz_cell.specs.Cell.{Kept, Pending, spare_place}
+use Rattle.sz_cell.specs.Cell.{Pending, spare_place}
 use Rattle.sz_cell.specs.Slot.{open_gate, spelled}
 use Rattle.sz_cell.specs.declared.fault.ClearFault.TheVariants.{Exhausted}
 use Rattle.sz_cell.proofs.Regions.{spare_inside}
