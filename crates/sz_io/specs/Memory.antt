@@ -3,7 +3,7 @@ use Rattle.std.specs.Prelude.{ℕ, Bool, List, refl}
 use Rattle.std.specs.Coded.{Coded, code_by, coded×, coded_ℕ, coded_list}
 use Rattle.std.specs.FinMap as map
 use Rattle.sz_io.specs.Folder.{FileMap}
-use Rattle.sz_base.specs.declared.seconds.Seconds.{Seconds}
+use Rattle.sz_base.specs.declared.moment.Seconds.{Seconds}
 use Rattle.sz_io.specs.Plan.{Plan}
 use Rattle.sz_io.specs.Net.{Traffic}
 use Rattle.sz_io.specs.Listener.{Arrivals}

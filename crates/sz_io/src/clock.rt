@@ -1,6 +1,6 @@
 //! The clock, which tells the time.
 ghost use Rattle.std.specs.Prelude.{◌≡◌, ℕ, List, [], ◌∷◌, Option, OnErr, IfOk, is_err};
-ghost use Rattle.sz_base.specs.declared.seconds.Seconds.{Seconds};
+ghost use Rattle.sz_base.specs.declared.moment.Seconds.{Seconds};
 ghost use Rattle.sz_spec.specs.Cause.{HasCause};
 ghost use Rattle.sz_spec.specs.Told.{TakesFront};
 
