@@ -1,6 +1,6 @@
 use Rattle.std.proofs.Common.{[], ◌∷◌, ◌++◌}
-use Rattle.sztp.proofs.Fronts.{AppendsFront-first, AppendsFront-next, Appends-next, always_on_err, each_on_err}
-use Rattle.sztp.proofs.print.print_line.Goals as goal
+use Rattle.sz_commands.proofs.Fronts.{AppendsFront-first, AppendsFront-next, Appends-next, always_on_err, each_on_err}
+use Rattle.sz_commands.proofs.print.print_line.Goals as goal
 
 pub returns-in_err-write-clause-refused : goal.returns-in_err-write-clause-refused
 returns-in_err-write-clause-refused g c =
