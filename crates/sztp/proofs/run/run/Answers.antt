@@ -1,0 +1,10 @@
+use Rattle.std.proofs.Common.{rules, arith}
+use Rattle.std.proofs.lemmas.Grind.{common_steps}
+use Rattle.sztp.proofs.Laws.{causes}
+use Rattle.sztp.proofs.run.run.Goals as goal
+
+pub returns-in-Some-Check-clause-ran : goal.returns-in-Some-Check-clause-ran
+returns-in-Some-Check-clause-ran g c = first_of (search rules, grind arith, grind (arith, common_steps))
+
+pub returns-in-Some-Check-clause-causes : goal.returns-in-Some-Check-clause-causes
+returns-in-Some-Check-clause-causes g c = causes _ _ _ c.args.words.now (returns-in-Some-Check-clause-ran g c)

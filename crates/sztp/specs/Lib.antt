@@ -1,0 +1,5 @@
+pub mod Causes
+pub mod Outside
+pub mod Ran
+pub mod View
+pub mod Words

@@ -1,0 +1,37 @@
+//! The top call: a run of the program on its words, over an outside that is handed in.
+ghost use Rattle.sztp.specs.Causes.{HasCauses};
+ghost use Rattle.sztp.specs.Outside.{Outside};
+ghost use Rattle.sztp.specs.Ran.{RunOk};
+
+use crate::command::{Command, read_command};
+use crate::world::{Observed, World};
+use std::alloc::Global;
+use std::thread::Threads;
+use sz_base::Text;
+use sz_commands::{Failure, Status, say_failure};
+use sz_disk::Disk;
+use sz_io::{Clock, Entropy, Folder, Listener, Net, Sink};
+use sz_keys::{check, say_checked};
+use sz_lms_tree::Gate;
+
+/// Runs the program on the words after its name: does the command that they are, and prints.
+pub fn run<'a, R: Threads + Sync, G: Gate + Sync, D: Disk, N: Net, L: Listener, F: Folder, C: Clock, E: Entropy, O: Sink>(
+    _rt: &R,
+    _gate: &G,
+    alloc: Global,
+    words: &[Text],
+    world: &mut World<'a, D, N, L, F, C, E, O>,
+) -> Status
+    ensures ran { RunOk words.now (⟦<World<'a, D, N, L, F, C, E, O> as Observed<D>>⟧.outside world.old)
+        (⟦<World<'a, D, N, L, F, C, E, O> as Observed<D>>⟧.outside world.new) result.0 }
+    ensures causes { HasCauses words.now (⟦<World<'a, D, N, L, F, C, E, O> as Observed<D>>⟧.outside world.old)
+        (⟦<World<'a, D, N, L, F, C, E, O> as Observed<D>>⟧.outside world.new) result.0 }
+{
+    match read_command(words) {
+        Some(Command::Check(paths)) => {
+            let answer = check(alloc, paths, world.folder);
+            say_checked(answer, world.out)
+        }
+        None => say_failure(Failure::Usage, world.out),
+    }
+}
