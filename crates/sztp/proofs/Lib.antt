@@ -1,3 +1,1 @@
-pub mod Fronts
-pub mod Runs
-pub mod Verdicts
+mod Laws

@@ -1,3 +1,5 @@
-pub mod Answer
-pub mod Check
+pub mod Causes
+pub mod Outside
+pub mod Ran
 pub mod View
+pub mod Words

@@ -1,9 +1,16 @@
-use crate::run::{World, run};
+//! The program over an outside in memory: words to a line and a status.
+
+use crate::run::run;
 use crate::vector::{MESSAGE, PUBLIC, SIGNATURE};
+use crate::world::World;
 use std::alloc::Global;
 use std::test::Fail;
-use sz_base::{Calls, OutOfMemory, Text, Texts};
-use sz_io::{Files, MemoryFolder, MemorySink};
+use std::thread::Threads;
+use sz_base::{Bytes, Calls, OutOfMemory, Text, Texts};
+use sz_disk::{Disks, MemoryDisk};
+use sz_io::{Files, MemoryFolder, MemorySink, Scripts, SetClock, SetEntropy, Times};
+use sz_io::{ScriptListener, ScriptNet};
+use sz_lms_tree::OpenGate;
 
 const WORDS: &[&[u8]] = &[b"check", b"p", b"m", b"s"];
 
@@ -42,19 +49,26 @@ fn folder(
 }
 
 // What is printed, and the status.
-fn outcome(
+fn outcome<R: Threads + Sync>(
+    rt: &R,
     alloc: Global,
     words: &[&[u8]],
     mut folder: MemoryFolder,
     fail: u64,
 ) -> Result<(MemorySink, u8), OutOfMemory> {
     let words = texts(alloc, words)?;
+    let none = || Calls::create(alloc);
     let mut out = MemorySink::create(alloc, call(alloc, fail)?);
     let mut world = World {
+        disks: &mut Disks::<MemoryDisk>::create(alloc),
+        net: &mut ScriptNet::create(alloc, Scripts::create(alloc), none()),
+        listener: &mut ScriptListener::create(alloc, Scripts::create(alloc), none()),
         folder: &mut folder,
+        clock: &mut SetClock::create(alloc, Times::create(alloc), none()),
+        entropy: &mut SetEntropy::create(alloc, Bytes::create(alloc), none()),
         out: &mut out,
     };
-    let status = run(alloc, words.as_slice(), &mut world);
+    let status = run(rt, &OpenGate, alloc, words.as_slice(), &mut world);
     Ok((out, status.0))
 }
 
@@ -72,7 +86,7 @@ fn a_signature_of_other_software_is_valid_for_its_message_alone(
         (b"lessage of one-h5w8\n", SIGNATURE, b"not valid: root\n", 3),
     ];
     for (message, signature, line, status) in table {
-        let (out, got) = outcome(alloc, WORDS, folder(alloc, message, signature, 0)?, 0)?;
+        let (out, got) = outcome(&rt, alloc, WORDS, folder(alloc, message, signature, 0)?, 0)?;
         assert_eq!(rt; (out.bytes(), got), (line, status));
     }
     Ok(())
@@ -81,8 +95,10 @@ fn a_signature_of_other_software_is_valid_for_its_message_alone(
 #[test]
 fn words_and_faults_have_their_line_and_status(rt: HostRuntime) -> Result<(), Fail> {
     let alloc = rt.alloc();
-    let table: [(&[&[u8]], u64, u64, &[u8], u8); 5] = [
+    let table: [(&[&[u8]], u64, u64, &[u8], u8); 8] = [
+        (&[], 0, 0, b"usage\n", 2),
         (&[b"check", b"p", b"m"], 0, 0, b"usage\n", 2),
+        (&[b"check", b"p", b"m", b"s", b"s"], 0, 0, b"usage\n", 2),
         (&[b"verify", b"p", b"m", b"s"], 0, 0, b"usage\n", 2),
         (
             &[b"check", b"missing.pub", b"m", b"s"],
@@ -91,11 +107,13 @@ fn words_and_faults_have_their_line_and_status(rt: HostRuntime) -> Result<(), Fa
             b"no file: missing.pub\n",
             33,
         ),
-        (WORDS, 4, 0, b"file fault: m\n", 33),
+        (WORDS, 4, 0, b"file fault: s\n", 33),
+        (WORDS, 6, 0, b"file fault: m\n", 33),
         (WORDS, 0, 1, b"", 32),
     ];
     for (words, folder_fails, sink_fails, line, status) in table {
         let (out, got) = outcome(
+            &rt,
             alloc,
             words,
             folder(alloc, MESSAGE, SIGNATURE, folder_fails)?,

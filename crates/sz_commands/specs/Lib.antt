@@ -1,0 +1,5 @@
+pub mod Ending
+pub mod Failure
+pub mod Objects
+pub mod Printed
+pub mod View

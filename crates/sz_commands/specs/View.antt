@@ -1,0 +1,22 @@
+-- What the crate's own types stand for in the definitions.
+use Rattle.std.specs.Prelude.{Bool, false, Result, Ok, Err}
+use Rattle.sz_commands.specs.declared.failure.Failure.{Failure}
+use Rattle.sz_commands.specs.declared.failure.Failure.TheVariants.{Usage, NoFile, FileFault, DiskFault, ClockFault}
+use Rattle.sz_commands.specs.declared.failure.Failure.TheVariants.{EntropyFault, ListenerFault, OutOfMemory}
+use Rattle.sz_commands.specs.Failure as spec
+
+-- the failure that a value of the program stands for
+abbrev pub failure_of : Failure → spec.Failure
+failure_of Usage = spec.Usage
+failure_of (NoFile path) = spec.NoFile path.now
+failure_of (FileFault path) = spec.FileFault path.now
+failure_of DiskFault = spec.DiskFault
+failure_of ClockFault = spec.ClockFault
+failure_of EntropyFault = spec.EntropyFault
+failure_of ListenerFault = spec.ListenerFault
+failure_of OutOfMemory = spec.OutOfMemory
+
+-- an answer in which the folder is blamed
+abbrev pub faults_folder : {T : Type 0} → Result T Failure → Bool
+faults_folder (Ok value) = false
+faults_folder (Err failure) = spec.blames_folder (failure_of failure)

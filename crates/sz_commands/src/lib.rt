@@ -1,0 +1,13 @@
+//! What all commands of the program share: the statuses, the failures with their lines, reading a named input
+//! file, and printing a line.
+#![tactic(auto)]
+
+mod ending;
+mod failure;
+mod input;
+mod print;
+
+pub use ending::{Ending, Status};
+pub use failure::Failure;
+pub use input::read_input;
+pub use print::{say, say_failure};

@@ -1,0 +1,3 @@
+pub mod CheckLine
+pub mod CheckRan
+pub mod View

@@ -1,0 +1,270 @@
+-- What follows from what a run came to.
+use Rattle.std.proofs.Common.{◌≡◌, ◌≢◌, ◌==◌, ◌⊎◌, ℕ, true, List, Option, Some, None, IfSome, IsSome, Ok, Err, refl, sym, subst, ◌∙◌, inl, inr, arith}
+use Rattle.sz_spec.specs.Cause.{Rose, HasCause}
+use Rattle.sz_spec.specs.Told.{Appends}
+use Rattle.sz_io.specs.Folder.{FileMap, bytes_at}
+use Rattle.std.specs.Option.{option_map_or}
+use Rattle.sz_lms.specs.Rules.{Rule, hss_first}
+use Rattle.sz_commands.specs.Failure.{Failure, Usage, NoFile, FileFault, DiskFault, ClockFault, EntropyFault, ListenerFault, OutOfMemory}
+use Rattle.sz_commands.specs.Failure as failure
+use Rattle.sz_commands.specs.Printed.{IsPrinted}
+use Rattle.sz_keys.specs.CheckLine.{status_of, text_of}
+use Rattle.sz_keys.specs.CheckRan.{Answer, IsSigned, MayAnswer, Paths, answer_over, is_file_fault}
+use Rattle.sztp.specs.Causes.{LacksFile, HasCauses}
+use Rattle.sztp.specs.Outside.{Outside}
+use Rattle.sztp.specs.Ran.{EndsBy, Checks, Does, RunOk}
+use Rattle.sztp.specs.Words.{Command, Check, words_of}
+
+-- ---- what was printed
+
+own_status : (own given : ℕ) (text : List ℕ) (before after : Option (List ℕ)) → IsPrinted own text given before after → given ≢ 32 → given ≢ 70
+    → (given ≡ own) × Appends before after text
+own_status own given text before after (inl printed) output room = printed
+own_status own given text before after (inr refused) output room = elim refused.0 [ inl is ↦ absurd (output is) | inr is ↦ absurd (room is) ]
+
+-- ---- the answer of a check, by its status
+
+signed_only : (paths : Paths) (told : Option FileMap) (answer : Answer) → MayAnswer paths told answer → status_of answer ≡ 0
+    → IfSome told (λ files. IsSigned files paths)
+signed_only paths None answer may is = tt
+signed_only paths (Some files) (Ok None) may is = may.1
+signed_only paths (Some files) (Ok (Some rule)) may is = absurd (omega arith)
+signed_only paths (Some files) (Err Usage) may is = absurd (omega arith)
+signed_only paths (Some files) (Err (NoFile path)) may is = absurd (omega arith)
+signed_only paths (Some files) (Err (FileFault path)) may is = absurd (omega arith)
+signed_only paths (Some files) (Err DiskFault) may is = absurd (omega arith)
+signed_only paths (Some files) (Err ClockFault) may is = absurd (omega arith)
+signed_only paths (Some files) (Err EntropyFault) may is = absurd (omega arith)
+signed_only paths (Some files) (Err ListenerFault) may is = absurd (omega arith)
+signed_only paths (Some files) (Err OutOfMemory) may is = absurd (omega arith)
+
+unsigned_only : (paths : Paths) (told : Option FileMap) (answer : Answer) → MayAnswer paths told answer → status_of answer ≡ 3
+    → IfSome told (λ files. ¬ (IsSigned files paths))
+unsigned_only paths None answer may is = tt
+unsigned_only paths (Some files) (Ok None) may is = absurd (omega arith)
+unsigned_only paths (Some files) (Ok (Some rule)) may is = may.1
+unsigned_only paths (Some files) (Err Usage) may is = absurd (omega arith)
+unsigned_only paths (Some files) (Err (NoFile path)) may is = absurd (omega arith)
+unsigned_only paths (Some files) (Err (FileFault path)) may is = absurd (omega arith)
+unsigned_only paths (Some files) (Err DiskFault) may is = absurd (omega arith)
+unsigned_only paths (Some files) (Err ClockFault) may is = absurd (omega arith)
+unsigned_only paths (Some files) (Err EntropyFault) may is = absurd (omega arith)
+unsigned_only paths (Some files) (Err ListenerFault) may is = absurd (omega arith)
+unsigned_only paths (Some files) (Err OutOfMemory) may is = absurd (omega arith)
+
+-- an answer that blames neither the folder nor memory is the one over the files
+exact_only : (paths : Paths) (files : FileMap) (answer : Answer) → MayAnswer paths (Some files) answer → (is_file_fault answer ≡ true → ⊥) → status_of answer ≢ 70
+    → answer_over files paths ≡ answer
+exact_only paths files (Ok None) may whole room = may.0
+exact_only paths files (Ok (Some rule)) may whole room = may.0
+exact_only paths files (Err Usage) may whole room = absurd may
+exact_only paths files (Err (NoFile path)) may whole room = may.1
+exact_only paths files (Err (FileFault path)) may whole room = absurd (whole refl)
+exact_only paths files (Err DiskFault) may whole room = absurd may
+exact_only paths files (Err ClockFault) may whole room = absurd may
+exact_only paths files (Err EntropyFault) may whole room = absurd may
+exact_only paths files (Err ListenerFault) may whole room = absurd may
+exact_only paths files (Err OutOfMemory) may whole room = absurd (room refl)
+
+-- the statuses that a check comes to by itself
+check_status : (paths : Paths) (told : Option FileMap) (answer : Answer) → MayAnswer paths told answer → (n : ℕ) → status_of answer ≡ n
+    → (n ≡ 0) ⊎ ((n ≡ 3) ⊎ ((n ≡ 33) ⊎ (n ≡ 70)))
+check_status paths told (Ok None) may n is = inl (sym is)
+check_status paths told (Ok (Some rule)) may n is = inr (inl (sym is))
+check_status paths told (Err Usage) may n is = absurd may
+check_status paths told (Err (NoFile path)) may n is = inr (inr (inl (sym is)))
+check_status paths told (Err (FileFault path)) may n is = inr (inr (inl (sym is)))
+check_status paths told (Err DiskFault) may n is = absurd may
+check_status paths told (Err ClockFault) may n is = absurd may
+check_status paths told (Err EntropyFault) may n is = absurd may
+check_status paths told (Err ListenerFault) may n is = absurd may
+check_status paths told (Err OutOfMemory) may n is = inr (inr (inr (sym is)))
+
+-- ---- a file that isn't there
+
+missing : (a b c : Option (List ℕ)) (verdict : List ℕ → List ℕ → List ℕ → Answer) (p q r path : List ℕ)
+    → ((x y z : List ℕ) → verdict x y z ≡ Err (NoFile path) → ⊥)
+    → option_map_or (λ x. option_map_or (λ y. option_map_or (λ z. verdict x y z) c (Err (NoFile r))) b (Err (NoFile q))) a (Err (NoFile p)) ≡ Err (NoFile path)
+    → (a ≡ None) ⊎ ((b ≡ None) ⊎ (c ≡ None))
+missing None b c verdict p q r path ok is = inl refl
+missing (Some x) None c verdict p q r path ok is = inr (inl refl)
+missing (Some x) (Some y) None verdict p q r path ok is = inr (inr refl)
+missing (Some x) (Some y) (Some z) verdict p q r path ok is = absurd (ok x y z is)
+
+no_file : (rule : Option Rule) (path : List ℕ) (answer : Answer) → answer ≡ Ok rule → answer ≡ Err (NoFile path) → ⊥
+no_file rule path answer is_ok is_err = cc
+
+lacks : (files : FileMap) (paths : Paths) (path : List ℕ) → answer_over files paths ≡ Err (NoFile path) → (named : List ℕ) × (bytes_at files named ≡ None)
+lacks files paths path is =
+    elim (missing (bytes_at files paths.public) (bytes_at files paths.file) (bytes_at files paths.signature) (λ x y z. Ok (hss_first x y z)) paths.public paths.file paths.signature path
+        (λ x y z ok. no_file (hss_first x y z) path (Ok (hss_first x y z)) refl ok) is) [
+      | inl none ↦ (paths.public, none)
+      | inr others ↦ elim others [ inl none ↦ (paths.file, none) | inr none ↦ (paths.signature, none) ]
+    ]
+
+absent : (paths : Paths) (told : Option FileMap) (path : List ℕ) → IfSome told (λ files. answer_over files paths ≡ Err (NoFile path))
+    → (named : List ℕ) × IfSome told (λ files. bytes_at files named ≡ None)
+absent paths None path is = (path, tt)
+absent paths (Some files) path is = lacks files paths path is
+
+-- a status that blames a file comes where the folder's count rose, or a file isn't there
+blamed : (paths : Paths) (told : Option FileMap) (answer : Answer) (before now : ℕ) → MayAnswer paths told answer → HasCause before now (is_file_fault answer)
+    → status_of answer ≡ 33 → Rose before now ⊎ ((named : List ℕ) × IfSome told (λ files. bytes_at files named ≡ None))
+blamed paths told (Ok None) before now may cause is = absurd (omega arith)
+blamed paths told (Ok (Some rule)) before now may cause is = absurd (omega arith)
+blamed paths told (Err Usage) before now may cause is = absurd may
+blamed paths told (Err (NoFile path)) before now may cause is = inr (absent paths told path may.1)
+blamed paths told (Err (FileFault path)) before now may cause is = inl (cause.rose refl)
+blamed paths told (Err DiskFault) before now may cause is = absurd may
+blamed paths told (Err ClockFault) before now may cause is = absurd may
+blamed paths told (Err EntropyFault) before now may cause is = absurd may
+blamed paths told (Err ListenerFault) before now may cause is = absurd may
+blamed paths told (Err OutOfMemory) before now may cause is = absurd (omega arith)
+
+exact_told : (paths : Paths) (told : Option FileMap) (answer : Answer) (status : ℕ) (before after : Option (List ℕ)) → MayAnswer paths told answer
+    → (is_file_fault answer ≡ true → ⊥) → status ≢ 70 → (status ≡ status_of answer) × Appends before after (text_of answer)
+    → IfSome told (λ files. (status ≡ status_of (answer_over files paths)) × Appends before after (text_of (answer_over files paths)))
+exact_told paths None answer status before after may whole room printed = tt
+exact_told paths (Some files) answer status before after may whole room printed =
+    let same : answer_over files paths ≡ answer = exact_only paths files answer may whole (λ seventy. room (printed.0 ∙ seventy)) in
+    rw same printed
+
+is_32 : (status : ℕ) → status ≡ 32 → (status == 32) ≡ true
+is_32 status is = rw is refl
+
+module _ {D : Type 0} (before after : Outside D) (status : ℕ) where
+  -- the five ways in which a check ends
+  check_ends : (paths : Paths) → Checks paths before after status
+      → (status ≡ 0) ⊎ ((status ≡ 3) ⊎ ((status ≡ 70) ⊎ ((status ≡ 32)
+      ⊎ ((status ≡ 33) × (Rose before.folder.faults after.folder.faults ⊎ LacksFile before)))))
+  check_ends paths c =
+      elim c.says.printed [
+        | inl printed ↦ elim (check_status paths before.folder.files c.answer c.ran.may status (sym printed.0)) [
+            | inl zero_is ↦ inl zero_is
+            | inr others ↦ elim others [
+                | inl three_is ↦ inr (inl three_is)
+                | inr rest ↦ elim rest [
+                    | inl file_is ↦ inr (inr (inr (inr (file_is, blamed paths before.folder.files c.answer before.folder.faults after.folder.faults c.ran.may c.ran.cause (sym printed.0 ∙ file_is)))))
+                    | inr memory_is ↦ inr (inr (inl memory_is))
+                  ]
+              ]
+          ]
+        | inr refused ↦ elim refused.0 [ inl output_is ↦ inr (inr (inr (inl output_is))) | inr memory_is ↦ inr (inr (inl memory_is)) ]
+      ]
+
+  -- the three ways in which a run ends that only prints a failure's line
+  failure_ends : (failed : Failure) → EndsBy failed before after status → (status ≡ failure.status_of failed) ⊎ ((status ≡ 32) ⊎ (status ≡ 70))
+  failure_ends failed e = elim e.says.printed [ inl printed ↦ inl printed.0 | inr refused ↦ inr refused.0 ]
+
+  pub does_output : (command : Option Command) → Does command before after status → HasCause before.out.faults after.out.faults (status == 32)
+  does_output None does = does.says.cause
+  does_output (Some (Check paths)) does = does.says.cause
+
+  pub run_output : (words : List (List ℕ)) → RunOk words before after status → HasCause before.out.faults after.out.faults (status == 32)
+  run_output words (inl does) = does_output (words_of words) does
+  run_output words (inr memory) = memory.says.cause
+
+  does_unchanged : (command : Option Command) → Does command before after status → after.folder.files ≡ before.folder.files
+  does_unchanged None does = rw does.folder refl
+  does_unchanged (Some (Check paths)) does = does.ran.unchanged
+
+  pub run_unchanged : (words : List (List ℕ)) → RunOk words before after status → after.folder.files ≡ before.folder.files
+  run_unchanged words (inl does) = does_unchanged (words_of words) does
+  run_unchanged words (inr memory) = rw memory.folder refl
+
+  checked : (words : List (List ℕ)) (paths : Paths) → RunOk words before after status → words_of words ≡ Some (Check paths) → status ≢ 70 → status ≢ 32
+      → Checks paths before after status
+  checked words paths (inl does) is room output = subst (λ (c : Option Command). Does c before after status) is does
+  checked words paths (inr memory) is room output =
+      elim (failure_ends OutOfMemory memory) [ inl own ↦ absurd (room own) | inr other ↦ elim other [ inl o ↦ absurd (output o) | inr r ↦ absurd (room r) ] ]
+
+  own_of : (paths : Paths) (c : Checks paths before after status) → status ≢ 70 → status ≢ 32
+      → (status ≡ status_of c.answer) × Appends before.out.written after.out.written (text_of c.answer)
+  own_of paths c room output = own_status (status_of c.answer) status (text_of c.answer) before.out.written after.out.written c.says.printed output room
+
+  pub signed : (words : List (List ℕ)) (paths : Paths) → RunOk words before after status → words_of words ≡ Some (Check paths) → status ≡ 0
+      → IfSome before.folder.files (λ files. IsSigned files paths)
+  signed words paths ran is zero_is =
+      let c = checked words paths ran is (λ other. omega arith) (λ other. omega arith) in
+      signed_only paths before.folder.files c.answer c.ran.may (sym (own_of paths c (λ other. omega arith) (λ other. omega arith)).0 ∙ zero_is)
+
+  pub unsigned : (words : List (List ℕ)) (paths : Paths) → RunOk words before after status → words_of words ≡ Some (Check paths) → status ≡ 3
+      → IfSome before.folder.files (λ files. ¬ (IsSigned files paths))
+  unsigned words paths ran is three_is =
+      let c = checked words paths ran is (λ other. omega arith) (λ other. omega arith) in
+      unsigned_only paths before.folder.files c.answer c.ran.may (sym (own_of paths c (λ other. omega arith) (λ other. omega arith)).0 ∙ three_is)
+
+  pub exact : (words : List (List ℕ)) (paths : Paths) → RunOk words before after status → words_of words ≡ Some (Check paths) → status ≢ 32 → status ≢ 70
+      → ¬ (Rose before.folder.faults after.folder.faults) → IfSome before.folder.files (λ files.
+      (status ≡ status_of (answer_over files paths)) × Appends before.out.written after.out.written (text_of (answer_over files paths)))
+  exact words paths ran is output room stood =
+      let c = checked words paths ran is room output in
+      exact_told paths before.folder.files c.answer status before.out.written after.out.written c.ran.may (λ failed. stood (c.ran.cause.rose failed)) room (own_of paths c room output)
+
+  -- ---- what each status says
+
+  does_usage : (command : Option Command) → Does command before after status → status ≡ 2 → command ≡ None
+  does_usage None does is = refl
+  does_usage (Some (Check paths)) does is =
+      elim (check_ends paths does) [
+        | inl e ↦ absurd (omega arith)
+        | inr f ↦ elim f [ inl e ↦ absurd (omega arith) | inr g ↦ elim g [ inl e ↦ absurd (omega arith) | inr h ↦ elim h [ inl e ↦ absurd (omega arith) | inr e ↦ let e = e.0 in absurd (omega arith) ] ] ]
+      ]
+
+  usage_of : (words : List (List ℕ)) → RunOk words before after status → status ≡ 2 → words_of words ≡ None
+  usage_of words (inl does) is = does_usage (words_of words) does is
+  usage_of words (inr memory) is =
+      elim (failure_ends OutOfMemory memory) [ inl own ↦ absurd (omega arith) | inr other ↦ elim other [ inl o ↦ absurd (omega arith) | inr r ↦ absurd (omega arith) ] ]
+
+  -- a run that only prints a failure's line has none of these statuses
+  quiet_status : (failed : Failure) (own : ℕ) → failure.status_of failed ≡ own → EndsBy failed before after status → (n : ℕ) → status ≡ n → own ≢ n → 32 ≢ n → 70 ≢ n → ⊥
+  quiet_status failed own own_is e n is differs output memory =
+      elim (failure_ends failed e) [ inl o ↦ differs (sym own_is ∙ sym o ∙ is) | inr other ↦ elim other [ inl o ↦ output (sym o ∙ is) | inr r ↦ memory (sym r ∙ is) ] ]
+
+  check_never : (paths : Paths) → Checks paths before after status → (n : ℕ) → status ≡ n → 0 ≢ n → 3 ≢ n → 32 ≢ n → 33 ≢ n → 70 ≢ n → ⊥
+  check_never paths c n is a b d e f =
+      elim (check_ends paths c) [
+        | inl o ↦ a (sym o ∙ is)
+        | inr p ↦ elim p [ inl o ↦ b (sym o ∙ is) | inr q ↦ elim q [ inl o ↦ f (sym o ∙ is) | inr r ↦ elim r [ inl o ↦ d (sym o ∙ is) | inr o ↦ e (sym o.0 ∙ is) ] ] ]
+      ]
+
+  -- no command comes to this status
+  does_never : (command : Option Command) → Does command before after status → (n : ℕ) → status ≡ n → 0 ≢ n → 2 ≢ n → 3 ≢ n → 32 ≢ n → 33 ≢ n → 70 ≢ n → ⊥
+  does_never None does n is a u b d e f = quiet_status Usage 2 refl does n is u d f
+  does_never (Some (Check paths)) does n is a u b d e f = check_never paths does n is a b d e f
+
+  never : (words : List (List ℕ)) → RunOk words before after status → (n : ℕ) → status ≡ n → 0 ≢ n → 2 ≢ n → 3 ≢ n → 32 ≢ n → 33 ≢ n → 70 ≢ n → ⊥
+  never words (inl does) n is a u b d e f = does_never (words_of words) does n is a u b d e f
+  never words (inr memory) n is a u b d e f = quiet_status OutOfMemory 70 refl memory n is f d f
+
+  does_three : (command : Option Command) → Does command before after status → status ≡ 3 → IsSome command
+  does_three None does is = absurd (quiet_status Usage 2 refl does 3 is (λ x. omega arith) (λ x. omega arith) (λ x. omega arith))
+  does_three (Some command) does is = refl
+
+  three_of : (words : List (List ℕ)) → RunOk words before after status → status ≡ 3 → IsSome (words_of words)
+  three_of words (inl does) is = does_three (words_of words) does is
+  three_of words (inr memory) is = absurd (quiet_status OutOfMemory 70 refl memory 3 is (λ x. omega arith) (λ x. omega arith) (λ x. omega arith))
+
+  does_file : (command : Option Command) → Does command before after status → status ≡ 33 → Rose before.folder.faults after.folder.faults ⊎ LacksFile before
+  does_file None does is = absurd (quiet_status Usage 2 refl does 33 is (λ x. omega arith) (λ x. omega arith) (λ x. omega arith))
+  does_file (Some (Check paths)) does is =
+      elim (check_ends paths does) [
+        | inl e ↦ absurd (omega arith)
+        | inr f ↦ elim f [ inl e ↦ absurd (omega arith) | inr g ↦ elim g [ inl e ↦ absurd (omega arith) | inr h ↦ elim h [ inl e ↦ absurd (omega arith) | inr e ↦ e.1 ] ] ]
+      ]
+
+  file_of : (words : List (List ℕ)) → RunOk words before after status → status ≡ 33 → Rose before.folder.faults after.folder.faults ⊎ LacksFile before
+  file_of words (inl does) is = does_file (words_of words) does is
+  file_of words (inr memory) is = absurd (quiet_status OutOfMemory 70 refl memory 33 is (λ x. omega arith) (λ x. omega arith) (λ x. omega arith))
+
+  pub causes : (words : List (List ℕ)) → RunOk words before after status → HasCauses words before after status
+  causes words ran = record {
+    usage = usage_of words ran;
+    not_valid = three_of words ran;
+    disk = λ is. absurd (never words ran 30 is (λ x. omega arith) (λ x. omega arith) (λ x. omega arith) (λ x. omega arith) (λ x. omega arith) (λ x. omega arith));
+    clock = λ is. absurd (never words ran 31 is (λ x. omega arith) (λ x. omega arith) (λ x. omega arith) (λ x. omega arith) (λ x. omega arith) (λ x. omega arith));
+    output = λ is. (run_output words ran).rose (is_32 status is);
+    file = file_of words ran;
+    entropy = λ is. absurd (never words ran 34 is (λ x. omega arith) (λ x. omega arith) (λ x. omega arith) (λ x. omega arith) (λ x. omega arith) (λ x. omega arith));
+    listener = λ is. absurd (never words ran 35 is (λ x. omega arith) (λ x. omega arith) (λ x. omega arith) (λ x. omega arith) (λ x. omega arith) (λ x. omega arith));
+  }

@@ -1,0 +1,39 @@
+-- What a run of the program came to, by its words.
+use Rattle.std.specs.Prelude.{◌≡◌, ◌==◌, ◌⊎◌, ℕ, List, Option, Some, None}
+use Rattle.sz_spec.specs.Cause.{HasCause}
+use Rattle.sz_commands.specs.Ending.{output_fault}
+use Rattle.sz_commands.specs.Failure.{Failure, Usage, OutOfMemory, status_of, text_of}
+use Rattle.sz_commands.specs.Objects.{SinkSeen}
+use Rattle.sz_commands.specs.Printed.{IsPrinted}
+use Rattle.sz_keys.specs.CheckLine as check
+use Rattle.sz_keys.specs.CheckRan.{Answer, CheckRan, Paths}
+use Rattle.sztp.specs.Outside.{Outside, OthersStay}
+use Rattle.sztp.specs.Words.{Command, Check, words_of}
+
+-- The text of work with this status was printed, and the given status is that of what was printed.
+pub record Says (own : ℕ) (text : List ℕ) (before after : SinkSeen) (given : ℕ) : Type 0 where
+  pub printed : IsPrinted own text given before.written after.written
+  pub cause : HasCause before.faults after.faults (given == output_fault)
+
+module _ {D : Type 0} where
+  -- nothing was done but to print the line of a failure
+  pub record EndsBy (failure : Failure) (before after : Outside D) (status : ℕ) : Type 0 where
+    pub says : Says (status_of failure) (text_of failure) before.out after.out status
+    pub folder : after.folder ≡ before.folder
+    pub others : OthersStay before after
+
+  -- a check was done over the folder, and its answer printed
+  pub record Checks (paths : Paths) (before after : Outside D) (status : ℕ) : Type 0 where
+    pub answer : Answer
+    pub ran : CheckRan paths before.folder after.folder answer
+    pub says : Says (check.status_of answer) (check.text_of answer) before.out after.out status
+    pub others : OthersStay before after
+
+  -- what each command came to, one equation a command
+  abbrev pub Does : Option Command → Outside D → Outside D → ℕ → Type 0
+  Does None before after status = EndsBy Usage before after status
+  Does (Some (Check paths)) before after status = Checks paths before after status
+
+  -- The command that the words are was done; or memory ran out as they were read.
+  abbrev pub RunOk : List (List ℕ) → Outside D → Outside D → ℕ → Type 0
+  RunOk words before after status = Does (words_of words) before after status ⊎ EndsBy OutOfMemory before after status
