@@ -1,4 +1,4 @@
--- Which calls of an object in memory fail.
+-- Which calls of an object fail.
 use Rattle.std.specs.Prelude.{ℕ, ◌+◌, min, List, Bool, if◌then◌else◌, Contains}
 use Rattle.sz_spec.specs.Cause.{last_count}
 

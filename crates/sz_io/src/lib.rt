@@ -31,6 +31,7 @@ pub use listener::Listener;
 pub use memory_folder::{Files, MemoryFolder};
 pub use memory_sink::MemorySink;
 pub use net::Net;
+pub use plan::FaultPlan;
 pub use read::{Found, read_whole};
 pub use script::{Script, Scripts};
 pub use script_listener::ScriptListener;

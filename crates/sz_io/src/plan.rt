@@ -1,4 +1,4 @@
-//! Which calls of an object in memory fail.
+//! Which calls of an object fail.
 ghost use Rattle.std.specs.Prelude.{◌≡◌, ◌↔◌, ◌⊎◌, IsTrue, false};
 ghost use Rattle.sz_spec.specs.Cause.{HasCause};
 ghost use Rattle.sz_io.specs.Plan.{first_plan, FailsNext, after_call};
@@ -6,8 +6,8 @@ ghost use Rattle.sz_io.specs.Plan.{first_plan, FailsNext, after_call};
 use std::marker::Model;
 use sz_base::Calls;
 
-/// The calls of an object in memory: how many there were, which of them fail, and how many have failed.
-/// Both counts stand still at the greatest u64.
+/// The calls of an object that fails where it is told to: which of them fail, by their numbers, how many there
+/// were, and how many have failed. Both counts stand still at the greatest u64.
 #[derive(Debug, Drop)]
 pub struct FaultPlan {
     fail: Calls,
@@ -46,7 +46,8 @@ impl FaultPlan {
         named
     }
 
-    /// The same for a call that fails too where it can't be answered.
+    /// Counts a call that fails too where it can't be answered, and says whether it fails, which is then
+    /// counted too.
     pub fn next_fails_or(&mut self, unanswered: bool) -> bool
         ensures fails { IsTrue result ↔ (FailsNext self.old ⊎ IsTrue unanswered) }
         ensures cause { HasCause self.old.faults self.new.faults result }

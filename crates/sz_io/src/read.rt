@@ -8,7 +8,7 @@ use crate::Folder;
 use std::alloc::Global;
 use sz_base::{Bytes, Failed, Text};
 
-/// How many bytes are asked for at a time.
+// How many bytes are asked for at a time.
 const CHUNK: usize = 65536;
 
 /// What was found at a path.
