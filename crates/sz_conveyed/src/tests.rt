@@ -94,6 +94,27 @@ fn the_examples(rt: HostRuntime) -> Result<(), JsonFault> {
     Ok(())
 }
 
+const BARE: &[u8] = br#"{"ietf-sztp-conveyed-info:onboarding-information":{}}"#;
+
+fn is_bare(conveyed: &Conveyed) -> bool {
+    match conveyed {
+        Conveyed::Redirect(_) => false,
+        Conveyed::Onboarding(onboarding) => {
+            onboarding.image.is_none()
+                && onboarding.handling == Handling::Replace
+                && onboarding.pre.is_none()
+                && onboarding.configuration.is_none()
+                && onboarding.post.is_none()
+        }
+    }
+}
+
+#[test]
+fn information_without_members_replaces(rt: HostRuntime) -> Result<(), JsonFault> {
+    assert!(rt; is_bare(&Conveyed::read(rt.alloc(), BARE)?));
+    Ok(())
+}
+
 // the first member at fault of the information `inside` under a top member
 fn fault(alloc: Global, top: Name, inside: &str) -> Result<Option<Name>, JsonFault> {
     let mut text = Bytes::from_slice(alloc, b"{\"")?;
