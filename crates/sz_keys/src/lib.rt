@@ -2,7 +2,6 @@
 #![tactic(auto)]
 
 mod check_command;
-
 mod pieces;
 mod verdict;
 

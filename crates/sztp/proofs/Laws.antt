@@ -97,7 +97,7 @@ no_file rule path answer is_ok is_err = cc
 lacks : (files : FileMap) (paths : Paths) (path : List ℕ) → answer_over files paths ≡ Err (NoFile path) → (named : List ℕ) × (bytes_at files named ≡ None)
 lacks files paths path is =
     elim (missing (bytes_at files paths.public) (bytes_at files paths.file) (bytes_at files paths.signature) (λ x y z. Ok (hss_first x y z)) paths.public paths.file paths.signature path
-        (λ x y z ok. no_file (hss_first x y z) path (Ok (hss_first x y z)) refl ok) is) [
+    (λ x y z ok. no_file (hss_first x y z) path (Ok (hss_first x y z)) refl ok) is) [
       | inl none ↦ (paths.public, none)
       | inr others ↦ elim others [ inl none ↦ (paths.file, none) | inr none ↦ (paths.signature, none) ]
     ]
@@ -140,15 +140,15 @@ module _ {D : Type 0} (before after : Outside D) (status : ℕ) where
   check_ends paths c =
       elim c.says.printed [
         | inl printed ↦ elim (check_status paths before.folder.files c.answer c.ran.may status (sym printed.0)) [
-            | inl zero_is ↦ inl zero_is
-            | inr others ↦ elim others [
-                | inl three_is ↦ inr (inl three_is)
-                | inr rest ↦ elim rest [
-                    | inl file_is ↦ inr (inr (inr (inr (file_is, blamed paths before.folder.files c.answer before.folder.faults after.folder.faults c.ran.may c.ran.cause (sym printed.0 ∙ file_is)))))
-                    | inr memory_is ↦ inr (inr (inl memory_is))
-                  ]
-              ]
+          | inl zero_is ↦ inl zero_is
+          | inr others ↦ elim others [
+            | inl three_is ↦ inr (inl three_is)
+            | inr rest ↦ elim rest [
+              | inl file_is ↦ inr (inr (inr (inr (file_is, blamed paths before.folder.files c.answer before.folder.faults after.folder.faults c.ran.may c.ran.cause (sym printed.0 ∙ file_is)))))
+              | inr memory_is ↦ inr (inr (inl memory_is))
+            ]
           ]
+        ]
         | inr refused ↦ elim refused.0 [ inl output_is ↦ inr (inr (inr (inl output_is))) | inr memory_is ↦ inr (inr (inl memory_is)) ]
       ]
 

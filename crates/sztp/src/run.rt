@@ -15,7 +15,18 @@ use sz_keys::{check, say_checked};
 use sz_lms_tree::Gate;
 
 /// Runs the program on the words after its name: does the command that they are, and prints.
-pub fn run<'a, R: Threads + Sync, G: Gate + Sync, D: Disk, N: Net, L: Listener, F: Folder, C: Clock, E: Entropy, O: Sink>(
+pub fn run<
+    'a,
+    R: Threads + Sync,
+    G: Gate + Sync,
+    D: Disk,
+    N: Net,
+    L: Listener,
+    F: Folder,
+    C: Clock,
+    E: Entropy,
+    O: Sink,
+>(
     _rt: &R,
     _gate: &G,
     alloc: Global,

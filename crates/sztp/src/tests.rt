@@ -8,8 +8,10 @@ use std::test::Fail;
 use std::thread::Threads;
 use sz_base::{Bytes, Calls, OutOfMemory, Text, Texts};
 use sz_disk::{Disks, MemoryDisk};
-use sz_io::{Files, MemoryFolder, MemorySink, Scripts, SetClock, SetEntropy, Times};
-use sz_io::{ScriptListener, ScriptNet};
+use sz_io::{
+    Files, MemoryFolder, MemorySink, ScriptListener, ScriptNet, Scripts, SetClock, SetEntropy,
+    Times,
+};
 use sz_lms_tree::OpenGate;
 
 const WORDS: &[&[u8]] = &[b"check", b"p", b"m", b"s"];

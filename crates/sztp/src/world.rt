@@ -23,20 +23,19 @@ pub trait Observed<D> {
 }
 
 impl<'a, D: Disk, N: Net, L: Listener, F: Folder, C: Clock, E: Entropy, O: Sink> Observed<D>
-    for World<'a, D, N, L, F, C, E, O>
-{
+    for World<'a, D, N, L, F, C, E, O> {
     ghost outside = { λ world. record {
-        disks = world.disks.now;
-        disk_faults = map (λ entry. (D.seen entry.1).faults) world.disks.now;
-        net = record { faults = N.faults world.net.now; traffic = N.traffic world.net.now };
-        listener = record {
-            faults = L.faults world.listener.now;
-            stands = L.stands world.listener.now;
-            arrivals = L.arrivals world.listener.now;
-        };
-        folder = record { faults = F.faults world.folder.now; files = F.files world.folder.now };
-        clock = record { faults = C.faults world.clock.now; answers = C.answers world.clock.now };
-        entropy = record { faults = E.faults world.entropy.now; bytes = E.bytes world.entropy.now };
-        out = record { faults = O.faults world.out.now; written = O.written world.out.now };
+      disks = world.disks.now;
+      disk_faults = map (λ entry. (D.seen entry.1).faults) world.disks.now;
+      net = record { faults = N.faults world.net.now; traffic = N.traffic world.net.now };
+      listener = record {
+        faults = L.faults world.listener.now;
+        stands = L.stands world.listener.now;
+        arrivals = L.arrivals world.listener.now;
+      };
+      folder = record { faults = F.faults world.folder.now; files = F.files world.folder.now };
+      clock = record { faults = C.faults world.clock.now; answers = C.answers world.clock.now };
+      entropy = record { faults = E.faults world.entropy.now; bytes = E.bytes world.entropy.now };
+      out = record { faults = O.faults world.out.now; written = O.written world.out.now };
     } };
 }
