@@ -80,7 +80,9 @@ hash_bytes : (text bytes : List ℕ) → IsColonHex text bytes → IsBytes bytes
 hash_bytes text bytes h i = elim (cases_lt i 32) [
   | inl below ↦
       let pair = h.pairs i below in
-      omega (arith, pair.value, digit_below (slice_index text (3 * i)) pair.high_value pair.high_digit, digit_below (slice_index text (3 * i + 1)) pair.low_value pair.low_digit)
+      let high = digit_below (slice_index text (3 * i)) pair.high_value pair.high_digit in
+      let low = digit_below (slice_index text (3 * i + 1)) pair.low_value pair.low_digit in
+      omega (arith, pair.value, high, low)
   | inr past ↦ let none : slice_index bytes i ≡ 0 = get_or_past bytes i 0 (omega (arith, h.count)) in omega (arith, none)
 ]
 

@@ -8,7 +8,7 @@ use Rattle.sz_base.specs.Host.{IsHost}
 use Rattle.sz_base.specs.declared.target.Target.{Target}
 use Rattle.sz_json.proofs.Objects.{optional-members_of, required-members_of}
 use Rattle.sz_json.proofs.Readings.{form_from_optional, form_from_required}
-use Rattle.sz_json.specs.Form.{list_of, object_of, port_in_range, port_of, text_of}
+use Rattle.sz_json.specs.Form.{if_between, list_of, object_of, port_of, text_of}
 use Rattle.sz_json.specs.Object.{members_of}
 use Rattle.sz_json.specs.declared.name.Name.TheVariants as name
 use Rattle.sz_conveyed.proofs.Addresses.{host_of-host, IsAddress-host_of}
@@ -31,11 +31,11 @@ in_range false other n p l h e = cc
 in_range true false n p l h e = cc
 in_range true true n p l h e = let same : n ≡ p = cc in subst IsPortNumber same (record { low = grind (arith, nat_tests); high = grind (arith, nat_tests) })
 
-port_at : (number : Option ℕ) (p : ℕ) → option_and_then port_in_range number ≡ Some p → IsPortNumber p
+port_at : (number : Option ℕ) (p : ℕ) → option_and_then (if_between 1 65535) number ≡ Some p → IsPortNumber p
 port_at None p h = cc
 port_at (Some n) p h = in_range (nat_le 1 n) (nat_le n 65535) n p refl refl h
 
-port_fits : (n : ℕ) → IsPortNumber n → port_in_range n ≡ Some n
+port_fits : (n : ℕ) → IsPortNumber n → if_between 1 65535 n ≡ Some n
 port_fits n h =
     let low : nat_le 1 n ≡ true = grind (arith, nat_tests, h.low) in
     let high : nat_le n 65535 ≡ true = grind (arith, nat_tests, h.high) in
@@ -57,7 +57,7 @@ server_back entry target h =
       named = Some target.port;
       address = required-members_of address_of name.Address (server_members target) target.host (host_of-host target.host host);
       port = optional-members_of port_of name.Port (server_members target) (Some target.port) (λ n. number (unsigned n)) refl
-          (λ n e. let same : target.port ≡ n = cc in subst (λ m. port_in_range m ≡ Some m) same (port_fits target.port port));
+          (λ n e. let same : target.port ≡ n = cc in subst (λ m. if_between 1 65535 m ≡ Some m) same (port_fits target.port port));
       or_default = refl;
     }
 

@@ -1,6 +1,6 @@
 -- What is written of conveyed information: the members of each object in the byte order of their names. An absent part
 -- and an empty list of URIs are left out.
-use Rattle.std.specs.Prelude.{ℕ, ◌+◌, ◌/◌, ◌%◌, if◌then◌else◌, List, [], ◌∷◌, ◌++◌, drop, map, slice_index, nat_lt, Option, Some, None, option_map, codes, IfSome, IsUtf8}
+use Rattle.std.specs.Prelude.{ℕ, ◌+◌, ◌/◌, ◌%◌, if◌then◌else◌, List, [], ◌∷◌, ◌++◌, drop, map, slice_index, nat_lt, Option, Some, None, option_map, codes, IfSome, IsUtf8, ⊤}
 use Rattle.std.specs.List.{All, flat_map}
 use Rattle.serde_json.specs.Data.{Data, array, item, no_items, number, object, string, unsigned}
 use Rattle.serde_json.specs.View.{items_of}
@@ -10,6 +10,7 @@ use Rattle.sz_json.specs.declared.name.Name.{Name}
 use Rattle.sz_json.specs.declared.name.Name.TheVariants as name
 use Rattle.sz_conveyed.specs.Conveyed.{ConveyedOf, IsConveyed}
 use Rattle.sz_conveyed.specs.Onboarding.{handling_text}
+use Rattle.sz_conveyed.specs.declared.conveyed.Conveyed.{Conveyed}
 use Rattle.sz_conveyed.specs.declared.conveyed.Conveyed.TheVariants.{Redirect, Onboarding as Information}
 use Rattle.sz_conveyed.specs.declared.onboarding.BootImage.{BootImage}
 use Rattle.sz_conveyed.specs.declared.onboarding.Onboarding.{Onboarding}
@@ -81,6 +82,15 @@ pub record AreTexts (image : BootImage) : Type 0 where
   pub os_version : IfSome image.os_version IsUtf8
   pub uris : All IsUtf8 image.uris
 
+-- the texts of the information are UTF-8
+abbrev pub HasTexts : Onboarding → Type 0
+HasTexts onboarding = IfSome onboarding.image AreTexts
+
+-- the information can be written
+abbrev pub IsWritable : Conveyed → Type 0
+IsWritable (Redirect targets) = ⊤
+IsWritable (Information onboarding) = HasTexts onboarding
+
 -- ---- redirect information
 
 abbrev pub server_members : Target → List (Name × Option Data)
@@ -99,12 +109,6 @@ redirect_members targets = (name.RedirectInformation, Some (object (members_of (
 abbrev pub redirect_value : List Target → Data
 redirect_value targets = object (members_of (redirect_members targets))
 
--- ---- what was read of some value reads back from its text
-
-abbrev pub RedirectReadsBack : List Target → List ℕ → Type 0
-RedirectReadsBack targets bytes =
-    (value : Data) → IsConveyed value (Redirect targets) → ConveyedOf bytes (Redirect targets)
-
-abbrev pub OnboardingReadsBack : Onboarding → List ℕ → Type 0
-OnboardingReadsBack onboarding bytes =
-    (value : Data) → IsConveyed value (Information onboarding) → ConveyedOf bytes (Information onboarding)
+-- what was read of some value reads back from its text
+abbrev pub ReadsBack : Conveyed → List ℕ → Type 0
+ReadsBack conveyed bytes = (value : Data) → IsConveyed value conveyed → ConveyedOf bytes conveyed

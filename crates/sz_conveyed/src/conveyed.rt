@@ -6,6 +6,7 @@ ghost use Rattle.serde_json.specs.View.{view};
 ghost use Rattle.sz_json.specs.Fault.{IsFault, IsTextFault};
 ghost use Rattle.sz_json.specs.Json.{IsJson};
 ghost use Rattle.sz_conveyed.specs.Conveyed.{conveyed_fault, ConveyedOf, has_onboarding, IsConveyed, top_fault};
+ghost use Rattle.sz_conveyed.specs.Written.{IsWritable};
 
 use crate::Onboarding;
 use crate::information::read_onboarding;
@@ -27,6 +28,7 @@ impl Conveyed {
     /// where the content is no JSON or has not exactly one of the two top members.
     pub fn read(alloc: Global, content: &[u8]) -> Result<Self, JsonFault>
         ensures ok { IfOk result (ConveyedOf content.now) }
+        ensures writable { IfOk result IsWritable }
         ensures refused { IfErr result (IsTextFault conveyed_fault content.now) }
     {
         let value = sz_json::read(alloc, content)?;
@@ -47,6 +49,7 @@ pub fn is_onboarding(alloc: Global, content: &[u8]) -> Result<bool, JsonFault>
 
 fn of_value(alloc: Global, value: &Value) -> Result<Conveyed, JsonFault>
     ensures ok { IfOk result (IsConveyed (view value.now)) }
+    ensures writable { IfOk result IsWritable }
     ensures refused { IfErr result (IsFault (conveyed_fault (view value.now))) }
 {
     if has_onboarding(value)? {

@@ -1,6 +1,7 @@
 //! The reader of a boot image.
 
-ghost use Rattle.std.specs.Prelude.{◌≡◌, Option, Some, Ok, IfOk, IfErr, option_and_then};
+ghost use Rattle.std.specs.Prelude.{◌≡◌, Option, Some, Ok, IfOk, IfErr, IfSome, IsUtf8, option_and_then};
+ghost use Rattle.std.specs.List.{All};
 ghost use Rattle.std.specs.Option.{option_copied};
 ghost use Rattle.serde_json.specs.Data.{Items};
 ghost use Rattle.serde_json.specs.View.{items_view, view};
@@ -10,6 +11,7 @@ ghost use Rattle.sz_json.specs.Member.{optional, or_fault, required};
 ghost use Rattle.sz_json.specs.declared.name.Name.{Name};
 ghost use Rattle.sz_conveyed.specs.Hash.{hash_of, hash_of_text, is_sha256};
 ghost use Rattle.sz_conveyed.specs.Image.{hash_fault, hash_fault_where, image_fault, IsBootImage, NamesHash, NamesHashWhere, short_text_of, texts_in, texts_of};
+ghost use Rattle.sz_conveyed.specs.Written.{AreTexts};
 
 use crate::BootImage;
 use crate::onboarding::LONGEST_NAME;
@@ -29,6 +31,7 @@ const BAD_HASH: JsonFault = JsonFault::Member {
 #[tactic(auto, using(sz_json::proofs::Faults::first_fault))]
 pub(crate) fn read_image(alloc: Global, value: &Value) -> Result<BootImage, JsonFault>
     ensures ok { IfOk result (IsBootImage (view value.now)) }
+    ensures texts { IfOk result AreTexts }
     ensures refused { IfErr result (IsFault (image_fault (view value.now))) }
 {
     let os_name = short_text(alloc, value, Name::OsName)?;
@@ -46,6 +49,7 @@ pub(crate) fn read_image(alloc: Global, value: &Value) -> Result<BootImage, Json
 // a text of at most `LONGEST_NAME` bytes
 fn short_text(alloc: Global, value: &Value, name: Name) -> Result<Option<Text>, JsonFault>
     ensures ok { IfOk result (λ found. optional short_text_of name (view value.now) ≡ Ok found) }
+    ensures utf8 { IfOk result (λ found. IfSome found IsUtf8) }
     ensures refused { IfErr result (IsFault (fault_of (optional short_text_of name (view value.now)))) }
 {
     let Some(member) = member(value, name)? else {
@@ -63,6 +67,7 @@ fn short_text(alloc: Global, value: &Value, name: Name) -> Result<Option<Text>, 
 // the list of URIs
 fn uris(alloc: Global, value: &Value) -> Result<Option<Texts>, JsonFault>
     ensures ok { IfOk result (λ found. optional texts_of Name.DownloadUri (view value.now) ≡ Ok found) }
+    ensures utf8 { IfOk result (λ found. IfSome found (All IsUtf8)) }
     ensures refused { IfErr result (IsFault (fault_of (optional texts_of Name.DownloadUri (view value.now)))) }
 {
     let Some(member) = member(value, Name::DownloadUri)? else {
@@ -76,6 +81,7 @@ fn uris(alloc: Global, value: &Value) -> Result<Option<Texts>, JsonFault>
 
 fn texts(alloc: Global, items: &[Value]) -> Result<Texts, JsonFault>
     ensures ok { IfOk result (λ texts. texts_in (items_view items.now) ≡ Some texts) }
+    ensures utf8 { IfOk result (All IsUtf8) }
     ensures refused { IfErr result (IsFault (fault_of (or_fault Name.DownloadUri (texts_in (items_view items.now))))) }
 {
     let mut texts = Texts::create(alloc);

@@ -1,6 +1,6 @@
 //! The reader of onboarding information.
 
-ghost use Rattle.std.specs.Prelude.{◌≡◌, Option, Some, None, Ok, IfOk, IfErr, OnOk, option_and_then};
+ghost use Rattle.std.specs.Prelude.{◌≡◌, Option, Some, None, Ok, IfOk, IfErr, IfSome, OnOk, option_and_then};
 ghost use Rattle.std.specs.Option.{option_copied};
 ghost use Rattle.serde_json.specs.Data.{Data};
 ghost use Rattle.serde_json.specs.View.{view};
@@ -9,6 +9,7 @@ ghost use Rattle.sz_json.specs.Form.{object_of};
 ghost use Rattle.sz_json.specs.Member.{optional};
 ghost use Rattle.sz_json.specs.declared.name.Name.{Name};
 ghost use Rattle.sz_conveyed.specs.Onboarding.{handling_of, handling_of_text, image_fault_where, information_fault, IsImageWhere, IsInformation, IsOnboarding, onboarding_fault};
+ghost use Rattle.sz_conveyed.specs.Written.{AreTexts, HasTexts};
 
 use crate::image::read_image;
 use crate::{BootImage, Handling, Onboarding};
@@ -23,6 +24,7 @@ const BAD_HANDLING: JsonFault = JsonFault::Member {
 #[tactic(auto, using(sz_json::proofs::Faults::outer_fault))]
 pub(crate) fn read_onboarding(alloc: Global, value: &Value) -> Result<Onboarding, JsonFault>
     ensures ok { IfOk result (IsOnboarding (view value.now)) }
+    ensures texts { IfOk result HasTexts }
     ensures refused { IfErr result (IsFault (onboarding_fault (view value.now))) }
 {
     let information = required_object(value, Name::OnboardingInformation)?;
@@ -32,6 +34,7 @@ pub(crate) fn read_onboarding(alloc: Global, value: &Value) -> Result<Onboarding
 #[tactic(auto, using(sz_json::proofs::Faults::first_fault))]
 fn inside(alloc: Global, information: &Value) -> Result<Onboarding, JsonFault>
     ensures ok { IfOk result (IsInformation (view information.now)) }
+    ensures texts { IfOk result HasTexts }
     ensures refused { IfErr result (IsFault (information_fault (view information.now))) }
 {
     let image = boot_image(alloc, information)?;
@@ -57,6 +60,7 @@ fn boot_image(alloc: Global, information: &Value) -> Result<Option<BootImage>, J
         image_fault_where)) }
     ensures faultless { OnOk result (first_inside (optional object_of Name.BootImage (view information.now))
         image_fault_where ≡ None) }
+    ensures texts { IfOk result (λ image. IfSome image AreTexts) }
 {
     match object(information, Name::BootImage)? {
         Some(value) => Ok(Some(read_image(alloc, value)?)),

@@ -22,10 +22,10 @@ pub fn hashes_are_pairs()
     ensures { (text bytes : List ℕ) → (hash_of_text text ≡ Some bytes) ↔ IsColonHex text bytes }
 {}
 
-/// A value that is read as conveyed information has no member at fault, and is read as no other.
-pub fn read_information_has_no_fault()
-    ensures no_fault { (value : Data) (conveyed : Conveyed) → IsConveyed value conveyed
-        → conveyed_fault value ≡ None }
+/// A value is read as conveyed information exactly where none of its members is at fault, and then as one alone.
+pub fn faultless_values_are_information()
+    ensures exactly { (value : Data) → (conveyed_fault value ≡ None)
+        ↔ ((conveyed : Conveyed) × IsConveyed value conveyed) }
     ensures one_reading { (value : Data) (conveyed other : Conveyed) → IsConveyed value conveyed
         → IsConveyed value other → conveyed ≡ other }
 {}

@@ -12,7 +12,7 @@ mod redirect;
 mod writing;
 
 pub use conveyed::{Conveyed, is_onboarding};
-pub use laws::{addresses_are_hosts, hashes_are_pairs, read_information_has_no_fault};
+pub use laws::{addresses_are_hosts, faultless_values_are_information, hashes_are_pairs};
 pub use onboarding::{BootImage, Handling, LONGEST_NAME, Onboarding};
 pub use redirect::DEFAULT_PORT;
 pub use writing::{write_onboarding, write_redirect};

@@ -2,7 +2,7 @@
 
 ghost use Rattle.std.specs.Prelude.{◌≡◌, Some, None, Ok, IfOk, IfErr};
 ghost use Rattle.serde_json.specs.View.{items_view, view};
-ghost use Rattle.sz_base.specs.Host.{in_brackets, IsHost, IsIpv6Text};
+ghost use Rattle.sz_base.specs.Host.{in_brackets, IsHost};
 ghost use Rattle.sz_json.specs.Fault.{fault_of, IsFault};
 ghost use Rattle.sz_json.specs.Member.{or_fault, required};
 ghost use Rattle.sz_json.specs.declared.name.Name.{Name};

@@ -7,18 +7,19 @@ ghost use Rattle.serde_json.specs.Data.{array};
 ghost use Rattle.serde_json.specs.View.{items_of, view};
 ghost use Rattle.sz_conveyed.specs.Onboarding.{handling_text};
 ghost use Rattle.serde_json.specs.Written.{compact_text};
-ghost use Rattle.sz_conveyed.specs.Written.{AreTexts, colon_text, image_value, information_value, lower_digit, onboarding_value, OnboardingReadsBack, pair_text, redirect_value, RedirectReadsBack, server_value, texts_value, uris_value, verification_value};
+ghost use Rattle.sz_conveyed.specs.Written.{AreTexts, colon_text, HasTexts, image_value, information_value, lower_digit, onboarding_value, pair_text, ReadsBack, redirect_value, server_value, texts_value, uris_value, verification_value};
+ghost use Rattle.sz_conveyed.specs.declared.conveyed.Conveyed.TheVariants.{Redirect, Onboarding as Information};
 
 use crate::{BootImage, Handling, Onboarding};
 use std::alloc::Global;
 use sz_base::{Bytes, OutOfMemory, Target, Targets, Text, Texts};
-use sz_json::{Name, Object, Value, as_str, optional_bytes, optional_str, write};
+use sz_json::{Name, Object, Value, single, write};
 
 /// Writes onboarding information as compact JSON, with the members of each object in the byte order of their names.
 pub fn write_onboarding(alloc: Global, onboarding: &Onboarding) -> Result<Bytes, OutOfMemory>
-    requires { IfSome onboarding.now.image AreTexts }
+    requires { HasTexts onboarding.now }
     ensures written { IfOk result (λ bytes. bytes ≡ compact_text (onboarding_value onboarding.now)) }
-    ensures reads_back { IfOk result (OnboardingReadsBack onboarding.now) }
+    ensures reads_back { IfOk result (ReadsBack (Information onboarding.now)) }
 {
     let value = onboarding_object(alloc, onboarding)?;
     write(alloc, &value)
@@ -27,7 +28,7 @@ pub fn write_onboarding(alloc: Global, onboarding: &Onboarding) -> Result<Bytes,
 /// Writes redirect information likewise.
 pub fn write_redirect(alloc: Global, targets: &Targets) -> Result<Bytes, OutOfMemory>
     ensures written { IfOk result (λ bytes. bytes ≡ compact_text (redirect_value targets.now)) }
-    ensures reads_back { IfOk result (RedirectReadsBack targets.now) }
+    ensures reads_back { IfOk result (ReadsBack (Redirect targets.now)) }
 {
     let value = redirect_object(alloc, targets)?;
     write(alloc, &value)
@@ -36,28 +37,21 @@ pub fn write_redirect(alloc: Global, targets: &Targets) -> Result<Bytes, OutOfMe
 fn redirect_object(alloc: Global, targets: &Targets) -> Result<Value, OutOfMemory>
     ensures { IfOk result (λ value. view value ≡ redirect_value targets.now) }
 {
-    let mut information = Object::create(alloc);
-    information.put(alloc, Name::BootstrapServer, servers(alloc, targets)?)?;
-    let mut object = Object::create(alloc);
-    object.put(alloc, Name::RedirectInformation, information.into_value())?;
-    Ok(object.into_value())
+    let servers = servers(alloc, targets)?;
+    let information = single(alloc, Name::BootstrapServer, servers)?;
+    single(alloc, Name::RedirectInformation, information)
 }
 
 fn onboarding_object(alloc: Global, onboarding: &Onboarding) -> Result<Value, OutOfMemory>
-    requires { IfSome onboarding.now.image AreTexts }
+    requires { HasTexts onboarding.now }
     ensures { IfOk result (λ value. view value ≡ onboarding_value onboarding.now) }
 {
-    let mut object = Object::create(alloc);
-    object.put(
-        alloc,
-        Name::OnboardingInformation,
-        information(alloc, onboarding)?,
-    )?;
-    Ok(object.into_value())
+    let information = information(alloc, onboarding)?;
+    single(alloc, Name::OnboardingInformation, information)
 }
 
 fn information(alloc: Global, onboarding: &Onboarding) -> Result<Value, OutOfMemory>
-    requires { IfSome onboarding.now.image AreTexts }
+    requires { HasTexts onboarding.now }
     ensures { IfOk result (λ value. view value ≡ information_value onboarding.now) }
 {
     let mut object = Object::create(alloc);
@@ -74,17 +68,17 @@ fn information(alloc: Global, onboarding: &Onboarding) -> Result<Value, OutOfMem
     object.put_optional_binary(
         alloc,
         Name::PreConfigurationScript,
-        optional_bytes(&onboarding.pre),
+        onboarding.pre.as_ref(),
     )?;
     object.put_optional_binary(
         alloc,
         Name::Configuration,
-        optional_bytes(&onboarding.configuration),
+        onboarding.configuration.as_ref(),
     )?;
     object.put_optional_binary(
         alloc,
         Name::PostConfigurationScript,
-        optional_bytes(&onboarding.post),
+        onboarding.post.as_ref(),
     )?;
     Ok(object.into_value())
 }
@@ -113,6 +107,28 @@ fn image_of(alloc: Global, image: &BootImage) -> Result<Value, OutOfMemory>
         verification(alloc, &image.hash)?,
     )?;
     Ok(object.into_value())
+}
+
+// the text where there is one
+fn optional_str(text: &Option<Text>) -> Option<&str>
+    requires { IfSome text.now IsUtf8 }
+    ensures { option_copied result ≡ text.now }
+{
+    match text {
+        Some(text) => Some(as_str(text)),
+        None => None,
+    }
+}
+
+// the text, which is UTF-8
+fn as_str(text: &Text) -> &str
+    requires { IsUtf8 text.now }
+    ensures { result.now ≡ text.now }
+{
+    match str::from_utf8(text.as_slice()) {
+        Ok(text) => text,
+        Err(_) => unreachable!(),
+    }
 }
 
 fn handling(handling: Handling) -> &'static str

@@ -1,11 +1,12 @@
 -- The forms of members: what a value stands for in a form, or nothing where it has not the form.
-use Rattle.std.specs.Prelude.{ℕ, ◌&&◌, Bool, if◌then◌else◌, List, Option, Some, None, option_map, option_and_then, nat_le, nat_lt, pos}
+use Rattle.std.specs.Prelude.{ℕ, ◌&&◌, Bool, if◌then◌else◌, List, Option, Some, None, option_map, option_and_then, nat_le, nat_lt, pos, ◌*ℤ◌}
 use Rattle.std.specs.Int.{int_div_euclid}
 use Rattle.std.specs.List.{list_all}
 use Rattle.std.specs.Result.{result_ok}
 use Rattle.std.specs.Str.{bytes_eq}
 use Rattle.base64.specs.Engines.{standard}
 use Rattle.base64.specs.GeneralPurpose.{decode_of}
+use Rattle.jiff_core.specs.Timestamp.{IsTimestampNanos}
 use Rattle.jiff_fmt.specs.Temporal.{parse_timestamp}
 use Rattle.serde_json.specs.Data.{Data, Items}
 use Rattle.serde_json.specs.Find.{as_array, as_bool, as_number, as_object, as_str, as_u64}
@@ -33,13 +34,22 @@ binary_of value = option_and_then base64_of (text_of value)
 abbrev pub flag_of : Data → Option Bool
 flag_of = as_bool
 
--- a number from 1 to 65535
-abbrev pub port_in_range : ℕ → Option ℕ
-port_in_range number = if nat_le 1 number && nat_le number 65535 then Some number else None
+-- a number from the one to the other
+abbrev pub if_between : ℕ → ℕ → ℕ → Option ℕ
+if_between least most number = if nat_le least number && nat_le number most then Some number else None
 
--- a port, as a number without a fraction
+-- a number in this range, written without a fraction
+abbrev pub number_between : ℕ → ℕ → Data → Option ℕ
+number_between least most value =
+    option_and_then (if_between least most) (option_and_then as_u64 (as_number value))
+
+-- a number of 32 bits
+abbrev pub number_of : Data → Option ℕ
+number_of value = number_between 0 4_294_967_295 value
+
+-- a port
 abbrev pub port_of : Data → Option ℕ
-port_of value = option_and_then port_in_range (option_and_then as_u64 (as_number value))
+port_of value = number_between 1 65535 value
 
 -- The second in which the instant of the text lies, which is the text of a Timestamp of `jiff` (RFC 3339): a
 -- fraction is dropped downwards.
@@ -47,6 +57,10 @@ unfoldable pub seconds_of : List ℕ → Option Seconds
 seconds_of text =
     option_map (λ nanoseconds. record { 0 = int_div_euclid nanoseconds (pos 1_000_000_000) })
     (result_ok (parse_timestamp text))
+
+-- the second is that of a Timestamp of `jiff`
+abbrev pub IsInstant : Seconds → Type 0
+IsInstant seconds = IsTimestampNanos (seconds.0 *ℤ pos 1_000_000_000)
 
 -- a date and a time of day
 abbrev pub date_time_of : Data → Option Seconds

@@ -8,22 +8,20 @@ mod fault;
 mod laws;
 mod members;
 mod name;
-mod parts;
 mod times;
 mod writing;
 
 pub use document::{read, write};
 pub use fault::JsonFault;
-pub use laws::binary_is_base64;
+pub use laws::{binary_is_base64, times_are_instants};
 pub use members::{
-    binary, flag, list, member, object, port, required_binary, required_object, required_string,
-    required_text, string, text,
+    binary, flag, list, member, number, object, port, required_binary, required_object,
+    required_string, required_text, string, text,
 };
 pub use name::Name;
-pub use parts::{as_str, optional_bytes, optional_str};
 pub use serde_json::Value;
 pub use times::{date_time, required_time, time};
-pub use writing::Object;
+pub use writing::{Object, single};
 
 #[cfg(test)]
 mod tests;

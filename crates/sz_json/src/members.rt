@@ -1,11 +1,11 @@
 //! The readers of a member, each in one form. Each answers `None` exactly where the value is an object without
 //! such a member, and the fault of the name exactly where the member has another form or the value is no object.
 
-ghost use Rattle.std.specs.Prelude.{◌≡◌, true, false, Ok, Some, IfOk, IfErr, option_and_then, option_map, is_some, MatchOption};
+ghost use Rattle.std.specs.Prelude.{◌≡◌, true, false, Ok, Some, IfOk, IfErr, IfSome, IsUtf8, option_and_then, option_map, is_some, MatchOption};
 ghost use Rattle.serde_json.specs.Find.{as_object, get};
 ghost use Rattle.serde_json.specs.View.{view, items_view};
 ghost use Rattle.sz_json.specs.Fault.{fault_of, IsFault};
-ghost use Rattle.sz_json.specs.Form.{base64_of, binary_of, flag_of, list_of, object_of, port_in_range, port_of, text_of};
+ghost use Rattle.sz_json.specs.Form.{base64_of, binary_of, flag_of, if_between, list_of, number_of, object_of, port_of, text_of};
 ghost use Rattle.sz_json.specs.Member.{optional, or_fault, required};
 ghost use Rattle.sz_json.specs.Name.{name_text};
 
@@ -39,9 +39,10 @@ pub fn string<'v>(value: &'v Value, name: Name) -> Result<Option<&'v str>, JsonF
     }
 }
 
-/// A text, as its bytes.
+/// A text, as its bytes, which are UTF-8.
 pub fn text(alloc: Global, value: &Value, name: Name) -> Result<Option<Text>, JsonFault>
     ensures ok { IfOk result (λ found. optional text_of name (view value.now) ≡ Ok found) }
+    ensures utf8 { IfOk result (λ found. IfSome found IsUtf8) }
     ensures refused { IfErr result (IsFault (fault_of (optional text_of name (view value.now)))) }
 {
     match string(value, name)? {
@@ -75,13 +76,24 @@ pub fn flag(value: &Value, name: Name) -> Result<Option<bool>, JsonFault>
     }
 }
 
+/// A number below 2^32, written without a fraction.
+pub fn number(value: &Value, name: Name) -> Result<Option<u32>, JsonFault>
+    ensures ok { IfOk result (λ found. optional number_of name (view value.now) ≡ Ok found) }
+    ensures refused { IfErr result (IsFault (fault_of (optional number_of name (view value.now)))) }
+{
+    match member(value, name)? {
+        Some(member) => formed(as_u32(member.as_u64()), name),
+        None => Ok(None),
+    }
+}
+
 /// A port: a number from 1 to 65535, written without a fraction.
 pub fn port(value: &Value, name: Name) -> Result<Option<u16>, JsonFault>
     ensures ok { IfOk result (λ found. optional port_of name (view value.now) ≡ Ok found) }
     ensures refused { IfErr result (IsFault (fault_of (optional port_of name (view value.now)))) }
 {
     match member(value, name)? {
-        Some(member) => formed(in_port_range(member.as_u64()), name),
+        Some(member) => formed(as_port(member.as_u64()), name),
         None => Ok(None),
     }
 }
@@ -125,9 +137,10 @@ pub fn required_string<'v>(value: &'v Value, name: Name) -> Result<&'v str, Json
     }
 }
 
-/// A text that has to be there, as its bytes.
+/// A text that has to be there, as its bytes, which are UTF-8.
 pub fn required_text(alloc: Global, value: &Value, name: Name) -> Result<Text, JsonFault>
     ensures ok { IfOk result (λ text. required text_of name (view value.now) ≡ Ok text) }
+    ensures utf8 { IfOk result IsUtf8 }
     ensures refused { IfErr result (IsFault (fault_of (required text_of name (view value.now)))) }
 {
     let text = required_string(value, name)?;
@@ -191,8 +204,17 @@ fn decoded(alloc: Global, text: &str, name: Name) -> Result<Bytes, JsonFault>
     }
 }
 
-fn in_port_range(number: Option<u64>) -> Option<u16>
-    ensures { result ≡ option_and_then port_in_range number }
+fn as_u32(number: Option<u64>) -> Option<u32>
+    ensures { result ≡ option_and_then (if_between 0 4_294_967_295) number }
+{
+    match number {
+        Some(number @ 0..=0xffff_ffff) => Some(number as u32),
+        _ => None,
+    }
+}
+
+fn as_port(number: Option<u64>) -> Option<u16>
+    ensures { result ≡ option_and_then (if_between 1 65535) number }
 {
     match number {
         Some(number @ 1..=65535) => Some(number as u16),

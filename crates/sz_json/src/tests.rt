@@ -1,18 +1,18 @@
 //! The readers and the writer on worked texts.
 
 use crate::{
-    JsonFault, Name, Object, Value, binary, date_time, flag, list, member, object, port, read,
-    required_binary, required_object, required_string, required_text, required_time, string, text,
-    time, write,
+    JsonFault, Name, Object, Value, binary, date_time, flag, list, member, number, object, port,
+    read, required_binary, required_object, required_string, required_text, required_time, single,
+    string, text, time, write,
 };
 use std::alloc::Global;
-use sz_base::{OutOfMemory, Seconds};
+use sz_base::{Bytes, OutOfMemory, Seconds};
 
 const VALUE: &[u8] =
     br#"{"serial":"A1","nonce":"Zm8=","ca":true,"port":443,"created-on":"2016-10-07T19:31:42.9Z",
-"voucher":"x","voucher":{},"anchors":["a"],"issuer":null,"id":65536,"key":1.0}"#;
+"voucher":"x","voucher":{},"anchors":["a"],"issuer":null,"id":65536,"key":1.0,"path-length":4294967296}"#;
 
-const NAMES: [Name; 11] = [
+const NAMES: [Name; 12] = [
     Name::Serial,
     Name::Nonce,
     Name::Ca,
@@ -23,6 +23,7 @@ const NAMES: [Name; 11] = [
     Name::Issuer,
     Name::Id,
     Name::Key,
+    Name::PathLength,
     Name::Owner,
 ];
 
@@ -58,28 +59,30 @@ fn read_by(alloc: Global, reader: u8, value: &Value, name: Name) -> u8 {
         10 => said(there(required_text(alloc, value, name)), name),
         11 => said(there(required_binary(alloc, value, name)), name),
         12 => said(there(required_object(value, name)), name),
-        _ => said(there(required_time(value, name)), name),
+        13 => said(there(required_time(value, name)), name),
+        _ => said(number(value, name), name),
     }
 }
 
 #[test]
 fn members_by_form(rt: HostRuntime) -> Result<(), JsonFault> {
     let value = read(rt.alloc(), VALUE)?;
-    let rows: [(u8, &[u8; 11]); 14] = [
-        (0, b"++++++++++0"),
-        (1, b"++--+-----0"),
-        (2, b"++--+-----0"),
-        (3, b"-+--------0"),
-        (4, b"--+-------0"),
-        (5, b"---+------0"),
-        (6, b"----+-----0"),
-        (7, b"-----+----0"),
-        (8, b"------+---0"),
-        (9, b"++--+------"),
-        (10, b"++--+------"),
-        (11, b"-+---------"),
-        (12, b"-----+-----"),
-        (13, b"----+------"),
+    let rows: [(u8, &[u8; 12]); 15] = [
+        (0, b"+++++++++++0"),
+        (1, b"++--+------0"),
+        (2, b"++--+------0"),
+        (3, b"-+---------0"),
+        (4, b"--+--------0"),
+        (5, b"---+-------0"),
+        (6, b"----+------0"),
+        (7, b"-----+-----0"),
+        (8, b"------+----0"),
+        (9, b"++--+-------"),
+        (10, b"++--+-------"),
+        (11, b"-+----------"),
+        (12, b"-----+------"),
+        (13, b"----+-------"),
+        (14, b"---+----+--0"),
     ];
     for (reader, want) in rows {
         for (at, name) in NAMES.iter().enumerate() {
@@ -151,20 +154,21 @@ fn instants(rt: HostRuntime) {
 }
 
 fn written(alloc: Global) -> Result<bool, OutOfMemory> {
-    let mut inner = Object::create(alloc);
-    inner.put_number(alloc, Name::Port, 443)?;
+    let inner = single(alloc, Name::Port, Value::from(443u64))?;
     let mut object = Object::create(alloc);
     object.put_text(alloc, Name::Serial, "A\"1")?;
     object.put_flag(alloc, Name::Ca, false)?;
-    object.put_optional(alloc, Name::PlanVoucher, Some(inner.into_value()))?;
-    object.put_optional_binary(alloc, Name::Anchors, Some(b"foob"))?;
+    object.put_optional(alloc, Name::PlanVoucher, Some(inner))?;
+    object.put_number(alloc, Name::PathLength, 4_294_967_295)?;
+    let anchors = Bytes::from_slice(alloc, b"foob")?;
+    object.put_optional_binary(alloc, Name::Anchors, Some(&anchors))?;
     object.put_optional_binary(alloc, Name::Nonce, None)?;
     object.put_optional_text(alloc, Name::Id, None)?;
     object.put_optional_text(alloc, Name::Ca, Some("b"))?;
     let text = write(alloc, &object.into_value())?;
     Ok(
         text.as_slice()
-            == br#"{"anchors":"Zm9vYg==","ca":"b","serial":"A\"1","voucher":{"port":443}}"#.as_slice(),
+            == br#"{"anchors":"Zm9vYg==","ca":"b","path-length":4294967295,"serial":"A\"1","voucher":{"port":443}}"#.as_slice(),
     )
 }
 

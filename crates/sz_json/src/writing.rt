@@ -11,7 +11,7 @@ use crate::{Name, Value};
 use base64::engine::general_purpose::STANDARD;
 use serde_json::Map;
 use std::alloc::Global;
-use sz_base::OutOfMemory;
+use sz_base::{Bytes, OutOfMemory};
 
 /// An object that is written a member at a time. Contracts see its members, each name once, in the byte order of
 /// the names.
@@ -97,14 +97,14 @@ impl Object {
         &mut self,
         alloc: Global,
         name: Name,
-        bytes: Option<&[u8]>,
+        bytes: Option<&Bytes>,
     ) -> Result<(), OutOfMemory>
         ensures ok { OnOk result (members_in self.new
             ≡ with_member name (option_map binary_value (option_copied bytes.entry)) (members_in self.old)) }
         ensures err { OnErr result (members_in self.new ≡ members_in self.old) }
     {
         match bytes {
-            Some(bytes) => self.put_binary(alloc, name, bytes),
+            Some(bytes) => self.put_binary(alloc, name, bytes.as_slice()),
             None => Ok(()),
         }
     }
@@ -132,6 +132,15 @@ impl Object {
     {
         Value::Object(self.members)
     }
+}
+
+/// The object of one member.
+pub fn single(alloc: Global, name: Name, value: Value) -> Result<Value, OutOfMemory>
+    ensures { IfOk result (λ made. view made ≡ object (put (name_text name) (view value) no_members)) }
+{
+    let mut object = Object::create(alloc);
+    object.put(alloc, name, value)?;
+    Ok(object.into_value())
 }
 
 // the text of the bytes in base64

@@ -1,10 +1,9 @@
 -- The text of a date reads back as its second.
-use Rattle.std.proofs.Common.{◌≡◌, ℕ, nat_lt, ◌+◌, ◌*◌, ◌<◌, ◌≤◌, false, List, [], ◌∷◌, ◌++◌, Some, None, Ok, append_assoc, refl, sym, ap, ◌∙◌, arith, ℤ, pos, negsuc, ◌+ℤ◌, ◌*ℤ◌, ◌≤ℤ◌, unsigned_abs}
+use Rattle.std.proofs.Common.{◌≡◌, ℕ, nat_lt, ◌+◌, ◌*◌, ◌<◌, ◌≤◌, false, List, ◌++◌, Some, None, append_assoc, refl, arith, ℤ, pos, negsuc, ◌*ℤ◌}
 use Rattle.std.proofs.lemmas.Bool.Decides.{nat_tests}
 use Rattle.std.specs.Int.{int_div_euclid}
 use Rattle.jiff_core.proofs.SignedLemmas.{signed_arith}
 use Rattle.jiff_core.specs.DateTime.{civil_nanos}
-use Rattle.jiff_core.specs.Timestamp.{IsTimestampNanos}
 use Rattle.jiff_core.specs.declared.civil.date.Date.{Date}
 use Rattle.jiff_core.specs.declared.civil.datetime.DateTime.{DateTime}
 use Rattle.jiff_core.specs.declared.civil.time.Time.{Time}
@@ -14,10 +13,10 @@ use Rattle.jiff_fmt.proofs.RoundTrip.{parse_timestamp-text}
 use Rattle.jiff_fmt.specs.Text as jiff
 use Rattle.sz_base.specs.declared.moment.Seconds.{Seconds}
 use Rattle.sz_calendar.proofs.Days.{days_in_month-is, epoch_day-is}
-use Rattle.sz_calendar.specs.CivilTime.{CivilTime, IsDated, IsReal, IsTimeAt}
+use Rattle.sz_calendar.specs.CivilTime.{CivilTime, IsDated, IsReal}
 use Rattle.sz_calendar.specs.Gregorian.{IsDate}
-use Rattle.sz_json.specs.Form.{seconds_of}
-use Rattle.sz_voucher.specs.Written.{civil_text, four_digits, IsDateText, IsInstant, sign_text, year_text}
+use Rattle.sz_json.specs.Form.{IsInstant, seconds_of}
+use Rattle.sz_voucher.specs.Written.{civil_text, IsDateText, sign_text, year_text}
 
 -- an instant of `jiff` has a date
 pub dated_instant : (seconds : Seconds) → IsInstant seconds → IsDated seconds.0

@@ -1,9 +1,9 @@
 -- What is written has no float, and nests in few levels.
-use Rattle.std.proofs.Common.{◌≡◌, ℕ, List, [], ◌∷◌, Option, Some, None, refl, arith}
-use Rattle.serde_json.specs.Data.{Data, string}
+use Rattle.std.proofs.Common.{ℕ, List, Option, refl, arith}
+use Rattle.serde_json.specs.Data.{string}
 use Rattle.sz_json.proofs.Objects.{IsPlain, plain_members_of, plain_text, plain_where}
 use Rattle.sz_json.specs.Object.{binary_value}
-use Rattle.sz_voucher.specs.Written.{inner_members, members_value, outer_members, voucher_value}
+use Rattle.sz_voucher.specs.Written.{inner_members, outer_members, voucher_value}
 use Rattle.sz_voucher.specs.declared.voucher.Voucher.{Voucher}
 
 plain_binary : (bytes : List ℕ) → IsPlain 0 (binary_value bytes)

@@ -1,18 +1,18 @@
 -- What is written of a voucher that was read, reads as it.
-use Rattle.std.proofs.Common.{◌≡◌, ℕ, ◌&&◌, Bool, true, false, if◌then◌else◌, List, [], ◌∷◌, length, nat_le, Option, Some, None, IfSome, option_and_then, option_map, Ok, refl, sym, ap, subst, ◌∙◌}
+use Rattle.std.proofs.Common.{◌≡◌, ℕ, ◌&&◌, Bool, true, false, if◌then◌else◌, List, [], length, nat_le, Option, Some, None, IfSome, option_and_then, Ok, refl, ap, subst, ◌∙◌}
 use Rattle.serde_json.specs.Data.{Data, boolean, string}
 use Rattle.sz_base.specs.declared.moment.Seconds.{Seconds}
 use Rattle.sz_json.proofs.Base64.{base64_of-again}
 use Rattle.sz_json.proofs.Objects.{optional-members_of, or_before-None, required-members_of}
 use Rattle.sz_json.proofs.Readings.{form_from_optional, form_from_required}
-use Rattle.sz_json.specs.Form.{base64_of, binary_of, date_time_of, flag_of, object_of, seconds_of, text_of}
+use Rattle.sz_json.specs.Form.{base64_of, binary_of, date_time_of, flag_of, IsInstant, object_of, seconds_of, text_of}
 use Rattle.sz_json.specs.Member.{optional}
 use Rattle.sz_json.specs.Object.{binary_value}
 use Rattle.sz_json.specs.declared.name.Name.TheVariants as name
 use Rattle.sz_voucher.proofs.Dates.{seconds_of-text}
 use Rattle.sz_voucher.specs.Assertion.{assertion_in, assertion_of, assertion_text}
 use Rattle.sz_voucher.specs.Voucher.{HasMembers, if_nonce, IsVoucher, nonce_of}
-use Rattle.sz_voucher.specs.Written.{AreDateTexts, inner_members, IsDateText, IsInstant, members_value, outer_members, voucher_value}
+use Rattle.sz_voucher.specs.Written.{AreDateTexts, inner_members, IsDateText, members_value, outer_members, voucher_value}
 use Rattle.sz_voucher.specs.declared.voucher.Assertion.{Assertion}
 use Rattle.sz_voucher.specs.declared.voucher.Assertion.TheVariants.{Verified, Logged, Proximity}
 use Rattle.sz_voucher.specs.declared.voucher.Voucher.{Voucher}

@@ -1,10 +1,10 @@
 -- What is written of a voucher: its members in the byte order of their names. Dates are in UTC; the certificate's
 -- issuer and the date of renewal are never written.
-use Rattle.std.specs.Prelude.{◌≡◌, ℕ, ◌+◌, ◌/◌, ◌%◌, List, [], ◌∷◌, ◌++◌, Option, Some, None, option_map, codes, ℤ, pos, int_lt, unsigned_abs, if◌then◌else◌, ◌*ℤ◌, ⊤}
-use Rattle.jiff_core.specs.Timestamp.{IsTimestampNanos}
+use Rattle.std.specs.Prelude.{◌≡◌, ℕ, ◌+◌, ◌/◌, ◌%◌, List, [], ◌∷◌, ◌++◌, Option, Some, None, option_map, codes, ℤ, pos, int_lt, unsigned_abs, if◌then◌else◌, IfSome, IsUtf8, ⊤}
 use Rattle.serde_json.specs.Data.{Data, boolean, object, string}
 use Rattle.sz_base.specs.declared.moment.Seconds.{Seconds}
 use Rattle.sz_calendar.specs.CivilTime.{CivilTime, IsTimeAt}
+use Rattle.sz_json.specs.Form.{IsInstant}
 use Rattle.sz_json.specs.Object.{binary_value, members_of}
 use Rattle.sz_json.specs.declared.name.Name.{Name}
 use Rattle.sz_json.specs.declared.name.Name.TheVariants as name
@@ -43,10 +43,6 @@ civil_text time = day_text time ++ (84 ∷ clock_text time) ++ (90 ∷ [])
 abbrev pub IsDateText : Seconds → List ℕ → Type 0
 IsDateText seconds text = (time : CivilTime) × IsTimeAt seconds.0 time × (text ≡ civil_text time)
 
--- the second is that of a Timestamp of `jiff`
-abbrev pub IsInstant : Seconds → Type 0
-IsInstant seconds = IsTimestampNanos (seconds.0 *ℤ pos 1_000_000_000)
-
 -- the text of a second that is there
 abbrev pub AreDateTexts : Option Seconds → Option (List ℕ) → Type 0
 AreDateTexts None None = ⊤
@@ -75,6 +71,12 @@ outer_members voucher created end = (name.Voucher, Some (members_value voucher c
 
 abbrev pub voucher_value : Voucher → List ℕ → Option (List ℕ) → Data
 voucher_value voucher created end = object (members_of (outer_members voucher created end))
+
+-- the voucher can be written: its times have dates, and its serial number is UTF-8
+pub record IsWritable (voucher : Voucher) : Type 0 where
+  pub created_on : IsInstant voucher.created_on
+  pub expires_on : IfSome voucher.expires_on IsInstant
+  pub serial_number : IsUtf8 voucher.serial
 
 -- what was read of some value reads back from its text
 abbrev pub ReadsBack : Voucher → List ℕ → Type 0

@@ -1,7 +1,6 @@
 //! Whether a voucher is for this device at this moment.
 
 ghost use Rattle.std.specs.Prelude.{◌≡◌};
-ghost use Rattle.std.specs.Option.{option_copied};
 ghost use Rattle.sz_voucher.specs.Judgement.{is_other_nonce, is_past, judgement};
 
 use crate::Voucher;

@@ -13,9 +13,9 @@ pub fn judged_vouchers_fit()
         → (judgement voucher serial when ≡ Ok tt) ↔ Fits voucher serial when }
 {}
 
-/// A value that is read as a voucher has no member at fault, and is read as no other voucher.
-pub fn a_read_voucher_has_no_fault()
-    ensures no_fault { (value : Data) (voucher : Voucher) → IsVoucher value voucher → voucher_fault value ≡ None }
+/// A value is read as a voucher exactly where none of its members is at fault, and then as one alone.
+pub fn faultless_values_are_vouchers()
+    ensures exactly { (value : Data) → (voucher_fault value ≡ None) ↔ ((voucher : Voucher) × IsVoucher value voucher) }
     ensures one_voucher { (value : Data) (voucher other : Voucher) → IsVoucher value voucher → IsVoucher value other
         → voucher ≡ other }
 {}

@@ -9,7 +9,7 @@ mod voucher;
 mod writing;
 
 pub use judgement::{VoucherFault, judge};
-pub use laws::{a_read_voucher_has_no_fault, judged_vouchers_fit};
+pub use laws::{faultless_values_are_vouchers, judged_vouchers_fit};
 pub use voucher::{Assertion, LONGEST_NONCE, SHORTEST_NONCE, Voucher};
 pub use writing::write_voucher;
 

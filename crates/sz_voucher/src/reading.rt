@@ -7,6 +7,7 @@ ghost use Rattle.sz_json.specs.Fault.{fault_of, IsFault, IsTextFault};
 ghost use Rattle.sz_json.specs.Member.{optional, required};
 ghost use Rattle.sz_voucher.specs.Assertion.{assertion_in, assertion_of};
 ghost use Rattle.sz_voucher.specs.Voucher.{HasMembers, IsVoucher, members_fault, nonce_of, voucher_fault, VoucherOf};
+ghost use Rattle.sz_voucher.specs.Written.{IsWritable};
 
 use crate::voucher::{LONGEST_NONCE, SHORTEST_NONCE};
 use crate::{Assertion, Voucher};
@@ -28,6 +29,7 @@ impl Voucher {
     /// where the content is no JSON.
     pub fn read(alloc: Global, content: &[u8]) -> Result<Self, JsonFault>
         ensures ok { IfOk result (VoucherOf content.now) }
+        ensures writable { IfOk result IsWritable }
         ensures refused { IfErr result (IsTextFault voucher_fault content.now) }
     {
         let value = sz_json::read(alloc, content)?;
@@ -38,6 +40,7 @@ impl Voucher {
 #[tactic(auto, using(sz_json::proofs::Faults::outer_fault))]
 fn of_value(alloc: Global, value: &Value) -> Result<Voucher, JsonFault>
     ensures ok { IfOk result (IsVoucher (view value.now)) }
+    ensures writable { IfOk result IsWritable }
     ensures refused { IfErr result (IsFault (voucher_fault (view value.now))) }
 {
     let inside = required_object(value, Name::Voucher)?;
@@ -47,6 +50,7 @@ fn of_value(alloc: Global, value: &Value) -> Result<Voucher, JsonFault>
 #[tactic(auto, using(sz_json::proofs::Faults::first_fault))]
 fn members(alloc: Global, inside: &Value) -> Result<Voucher, JsonFault>
     ensures ok { IfOk result (HasMembers (view inside.now)) }
+    ensures writable { IfOk result IsWritable }
     ensures refused { IfErr result (IsFault (members_fault (view inside.now))) }
 {
     let created_on = required_time(inside, Name::CreatedOn)?;

@@ -1,11 +1,8 @@
 //! Vouchers as texts: one case a member and kind of fault, and the judgement at its edges.
 
-ghost use Rattle.std.specs.Prelude.{IfOk, IsUtf8};
-ghost use Rattle.sz_voucher.specs.Written.{IsInstant};
-
 use crate::{Assertion, Voucher, VoucherFault, judge, write_voucher};
 use std::alloc::Global;
-use sz_base::{BaseFault, Bytes, Moment, OutOfMemory, Seconds, Serial, Text};
+use sz_base::{BaseFault, Bytes, Moment, Seconds, Serial, Text};
 use sz_json::{JsonFault, Name};
 
 // the example of RFC 8366 section 3.2 with members of its section 5.2, bytes in base64
@@ -37,35 +34,41 @@ fn the_logged_example(rt: HostRuntime) -> Result<(), JsonFault> {
     Ok(())
 }
 
-// the members of a whole voucher
-const MEMBERS: [&str; 9] = [
-    r#""created-on":"2016-10-07T19:31:42Z""#,
-    r#""expires-on":"2016-10-21T19:31:42Z""#,
-    r#""assertion":"verified""#,
-    r#""serial-number":"JADA123456789""#,
-    r#""idevid-issuer":"Zm9v""#,
-    r#""pinned-domain-cert":"Zm9vYg==""#,
-    r#""domain-cert-revocation-checks":true"#,
-    r#""nonce":"AAECAwQFBgc=""#,
-    r#""last-renewal-date":"2017-10-07T19:31:42Z""#,
+// the members of a whole voucher, each with a value in its form, and whether it has to be there
+const MEMBERS: [(Name, &str, bool); 9] = [
+    (Name::CreatedOn, r#""2016-10-07T19:31:42Z""#, true),
+    (Name::ExpiresOn, r#""2016-10-21T19:31:42Z""#, false),
+    (Name::Assertion, r#""verified""#, true),
+    (Name::SerialNumber, r#""JADA123456789""#, true),
+    (Name::IdevidIssuer, r#""Zm9v""#, false),
+    (Name::PinnedDomainCert, r#""Zm9vYg==""#, true),
+    (Name::DomainCertRevocationChecks, "true", false),
+    (Name::Nonce, r#""AAECAwQFBgc=""#, false),
+    (
+        Name::LastRenewalDate,
+        r#""2017-10-07T19:31:42Z""#,
+        false,
+    ),
 ];
 
-// a voucher without the member at a place, and with these members at its end, of which a repeated name is the last
-fn text(alloc: Global, without: usize, more: &str) -> Result<Bytes, JsonFault> {
+// a voucher whose member of this name has another value, or is left out
+fn text(alloc: Global, other: Name, instead: Option<&str>) -> Result<Bytes, JsonFault> {
     let mut text = Bytes::from_slice(alloc, br#"{"ietf-voucher:voucher":{"x":0"#)?;
-    for (at, member) in MEMBERS.iter().enumerate() {
-        if at != without {
-            text.append(b",")?;
-            text.append(member.as_bytes())?;
+    for (name, value, _) in MEMBERS {
+        let value = if name == other { instead } else { Some(value) };
+        if let Some(value) = value {
+            text.append(b",\"")?;
+            text.append(name.as_str().as_bytes())?;
+            text.append(b"\":")?;
+            text.append(value.as_bytes())?;
         }
     }
-    text.append(more.as_bytes())?;
     text.append(b"}}")?;
     Ok(text)
 }
 
-fn fault(alloc: Global, without: usize, more: &str) -> Result<Option<Name>, JsonFault> {
-    let text = text(alloc, without, more)?;
+fn fault(alloc: Global, other: Name, instead: Option<&str>) -> Result<Option<Name>, JsonFault> {
+    let text = text(alloc, other, instead)?;
     match Voucher::read(alloc, text.as_slice()) {
         Ok(_) => Ok(None),
         Err(JsonFault::Member { name }) => Ok(Some(name)),
@@ -74,57 +77,46 @@ fn fault(alloc: Global, without: usize, more: &str) -> Result<Option<Name>, Json
 }
 
 #[test]
-fn faults_by_member(rt: HostRuntime) -> Result<(), JsonFault> {
-    for (without, more, want) in [
-        (9, "", None),
-        (0, "", Some(Name::CreatedOn)),
-        (1, "", None),
-        (2, "", Some(Name::Assertion)),
-        (3, "", Some(Name::SerialNumber)),
-        (4, "", None),
-        (5, "", Some(Name::PinnedDomainCert)),
-        (6, "", None),
-        (7, "", None),
-        (8, "", None),
-        (9, r#","created-on":"2016-10-07""#, Some(Name::CreatedOn)),
-        (9, r#","expires-on":null"#, Some(Name::ExpiresOn)),
-        (9, r#","assertion":"Verified""#, Some(Name::Assertion)),
-        (9, r#","assertion":"proximity""#, None),
-        (9, r#","serial-number":1"#, Some(Name::SerialNumber)),
-        (9, r#","idevid-issuer":"Zm9""#, Some(Name::IdevidIssuer)),
+fn each_member_missing_and_of_another_kind(rt: HostRuntime) -> Result<(), JsonFault> {
+    for (name, value, needed) in MEMBERS {
+        let missing = if needed { Some(name) } else { None };
+        assert_eq!(rt; fault(rt.alloc(), name, Some(value))?, None);
+        assert_eq!(rt; fault(rt.alloc(), name, None)?, missing);
+        for other in ["null", "1", "[]", "{}"] {
+            assert_eq!(rt; fault(rt.alloc(), name, Some(other))?, Some(name), "{other}");
+        }
+    }
+    Ok(())
+}
+
+#[test]
+fn members_of_another_form(rt: HostRuntime) -> Result<(), JsonFault> {
+    for (name, value, is_fault) in [
+        (Name::CreatedOn, r#""2016-10-07""#, true),
+        (Name::ExpiresOn, r#""2016-02-30T00:00:00Z""#, true),
+        (Name::Assertion, r#""Verified""#, true),
+        (Name::Assertion, r#""proximity""#, false),
+        (Name::SerialNumber, r#""""#, false),
+        (Name::IdevidIssuer, r#""Zm9""#, true),
+        (Name::PinnedDomainCert, r#""Zm9vYh==""#, true),
+        (Name::DomainCertRevocationChecks, r#""true""#, true),
+        (Name::DomainCertRevocationChecks, "false", false),
+        (Name::Nonce, r#""AAECAwQFBgc""#, true),
+        (Name::Nonce, r#""AAECAwQFBg==""#, true),
         (
-            9,
-            r#","pinned-domain-cert":"Zm9vYh==""#,
-            Some(Name::PinnedDomainCert),
+            Name::Nonce,
+            r#""AAECAwQFBgcICQoLDA0ODxAREhMUFRYXGBkaGxwdHh8=""#,
+            false,
         ),
         (
-            9,
-            r#","domain-cert-revocation-checks":"true""#,
-            Some(Name::DomainCertRevocationChecks),
+            Name::Nonce,
+            r#""AAECAwQFBgcICQoLDA0ODxAREhMUFRYXGBkaGxwdHh8g""#,
+            true,
         ),
-        (9, r#","nonce":"AAECAwQFBg==""#, Some(Name::Nonce)),
-        (
-            9,
-            r#","nonce":"AAECAwQFBgcICQoLDA0ODxAREhMUFRYXGBkaGxwdHh8=""#,
-            None,
-        ),
-        (
-            9,
-            r#","nonce":"AAECAwQFBgcICQoLDA0ODxAREhMUFRYXGBkaGxwdHh8g""#,
-            Some(Name::Nonce),
-        ),
-        (
-            9,
-            r#","last-renewal-date":"never""#,
-            Some(Name::LastRenewalDate),
-        ),
-        (0, r#","assertion":"""#, Some(Name::CreatedOn)),
+        (Name::LastRenewalDate, r#""never""#, true),
     ] {
-        assert_eq!(rt;
-            fault(rt.alloc(), without, more)?,
-            want,
-            "without {without}, with {more}"
-        );
+        let want = if is_fault { Some(name) } else { None };
+        assert_eq!(rt; fault(rt.alloc(), name, Some(value))?, want, "with {value}");
     }
     Ok(())
 }
@@ -138,6 +130,10 @@ fn faults_of_the_whole(rt: HostRuntime) {
         (b"{}", Name::Voucher),
         (br#"{"ietf-voucher:voucher":[]}"#, Name::Voucher),
         (br#"{"ietf-voucher:voucher":{}}"#, Name::CreatedOn),
+        (
+            br#"{"ietf-voucher:voucher":{"created-on":"2016-10-07T19:31:42Z","nonce":1}}"#,
+            Name::Assertion,
+        ),
     ] {
         match Voucher::read(rt.alloc(), content) {
             Err(JsonFault::Member { name }) => assert_eq!(rt; name, want, "at {content:?}"),
@@ -205,38 +201,22 @@ fn judged(rt: HostRuntime) -> Result<(), BaseFault> {
     Ok(())
 }
 
-fn serial(alloc: Global, text: &str) -> Result<Text, OutOfMemory>
-    ensures { IfOk result IsUtf8 }
-{
-    Text::from_slice(alloc, text.as_bytes())
-}
-
-fn written(alloc: Global, created_on: Seconds) -> Result<Bytes, OutOfMemory>
-    requires { IsInstant created_on }
-{
-    let voucher = Voucher {
-        expires_on: None,
-        serial: serial(alloc, "A1")?,
-        pinned: Bytes::from_slice(alloc, b"foob")?,
-        revocation: false,
-        nonce: Some(Bytes::from_slice(alloc, &[0, 1, 2, 3, 4, 5, 6, 7])?),
-        assertion: Assertion::Verified,
-        created_on,
-    };
-    write_voucher(alloc, &voucher)
+// what is written of the voucher that is read
+fn rewritten(alloc: Global, content: &[u8]) -> Result<Bytes, JsonFault> {
+    let voucher = Voucher::read(alloc, content)?;
+    Ok(write_voucher(alloc, &voucher)?)
 }
 
 const WRITTEN: &[u8] =
-    br#"{"ietf-voucher:voucher":{"assertion":"verified","created-on":"2016-10-07T19:31:42Z","domain-cert-revocation-checks":false,"nonce":"AAECAwQFBgc=","pinned-domain-cert":"Zm9vYg==","serial-number":"A1"}}"#;
+    br#"{"ietf-voucher:voucher":{"assertion":"logged","created-on":"2016-10-07T19:31:42Z","domain-cert-revocation-checks":false,"nonce":"AAECAwQFBgc=","pinned-domain-cert":"Zm9vYg==","serial-number":"JADA123456789"}}"#;
 
 const EARLIEST: &[u8] =
-    br#"{"ietf-voucher:voucher":{"assertion":"verified","created-on":"-009999-01-02T01:59:59Z","domain-cert-revocation-checks":false,"nonce":"AAECAwQFBgc=","pinned-domain-cert":"Zm9vYg==","serial-number":"A1"}}"#;
+    br#"{"ietf-voucher:voucher":{"assertion":"proximity","created-on":"-009999-01-02T01:59:59Z","domain-cert-revocation-checks":true,"expires-on":"9999-12-30T22:00:00Z","pinned-domain-cert":"","serial-number":"\u0001"}}"#;
 
 #[test]
-fn what_is_written(rt: HostRuntime) -> Result<(), OutOfMemory> {
-    let text = written(rt.alloc(), Seconds(1_475_868_702))?;
-    assert!(rt; text.as_slice() == WRITTEN);
-    let earliest = written(rt.alloc(), Seconds(-377_705_023_201))?;
-    assert!(rt; earliest.as_slice() == EARLIEST);
+fn what_is_written(rt: HostRuntime) -> Result<(), JsonFault> {
+    for (content, want) in [(LOGGED, WRITTEN), (WRITTEN, WRITTEN), (EARLIEST, EARLIEST)] {
+        assert!(rt; rewritten(rt.alloc(), content)?.as_slice() == want);
+    }
     Ok(())
 }

@@ -5,20 +5,19 @@ ghost use Rattle.std.specs.Option.{option_copied};
 ghost use Rattle.serde_json.specs.View.{view};
 ghost use Rattle.serde_json.specs.Written.{compact_text};
 ghost use Rattle.sz_calendar.specs.DateTime.{civil_time};
+ghost use Rattle.sz_json.specs.Form.{IsInstant};
 ghost use Rattle.sz_voucher.specs.Assertion.{assertion_text};
-ghost use Rattle.sz_voucher.specs.Written.{AreDateTexts, civil_text, clock_text, day_text, four_digits, IsDateText, IsInstant, members_value, ReadsBack, sign_text, two_digits, voucher_value};
+ghost use Rattle.sz_voucher.specs.Written.{AreDateTexts, civil_text, clock_text, day_text, four_digits, IsDateText, IsWritable, members_value, ReadsBack, sign_text, two_digits, voucher_value};
 
 use crate::{Assertion, Voucher};
 use std::alloc::Global;
 use sz_base::{Bytes, OutOfMemory, Seconds};
 use sz_calendar::DateTime;
-use sz_json::{Name, Object, Value, as_str, optional_bytes, write};
+use sz_json::{Name, Object, Value, single, write};
 
 /// Writes a voucher as compact JSON, with the members of each object in the byte order of their names.
 pub fn write_voucher(alloc: Global, voucher: &Voucher) -> Result<Bytes, OutOfMemory>
-    requires created_on { IsInstant voucher.now.created_on }
-    requires expires_on { IfSome voucher.now.expires_on IsInstant }
-    requires serial { IsUtf8 voucher.now.serial }
+    requires { IsWritable voucher.now }
     ensures written { IfOk result (λ bytes. (created : List ℕ) × (end : Option (List ℕ))
         × IsDateText voucher.now.created_on created × AreDateTexts voucher.now.expires_on end
         × (bytes ≡ compact_text (voucher_value voucher.now created end))) }
@@ -40,10 +39,8 @@ fn object(
     ensures { IfOk result (λ value. view value
         ≡ voucher_value voucher.now (string_bytes created.now) (option_map string_bytes end.now)) }
 {
-    let mut object = Object::create(alloc);
     let inside = members(alloc, voucher, created.as_str(), as_str_where(end))?;
-    object.put(alloc, Name::Voucher, inside)?;
-    Ok(object.into_value())
+    single(alloc, Name::Voucher, inside)
 }
 
 fn members(
@@ -59,11 +56,22 @@ fn members(
     object.put_text(alloc, Name::CreatedOn, created)?;
     object.put_optional_text(alloc, Name::ExpiresOn, end)?;
     object.put_text(alloc, Name::Assertion, assertion(voucher.assertion))?;
-    object.put_text(alloc, Name::SerialNumber, as_str(&voucher.serial))?;
+    object.put_text(alloc, Name::SerialNumber, serial(voucher))?;
     object.put_binary(alloc, Name::PinnedDomainCert, voucher.pinned.as_slice())?;
     object.put_flag(alloc, Name::DomainCertRevocationChecks, voucher.revocation)?;
-    object.put_optional_binary(alloc, Name::Nonce, optional_bytes(&voucher.nonce))?;
+    object.put_optional_binary(alloc, Name::Nonce, voucher.nonce.as_ref())?;
     Ok(object.into_value())
+}
+
+// the serial number, which is UTF-8
+fn serial(voucher: &Voucher) -> &str
+    requires { IsUtf8 voucher.now.serial }
+    ensures { result.now ≡ voucher.now.serial }
+{
+    match str::from_utf8(voucher.serial.as_slice()) {
+        Ok(serial) => serial,
+        Err(_) => unreachable!(),
+    }
 }
 
 fn assertion(assertion: Assertion) -> &'static str

@@ -13,6 +13,9 @@ returns-clause-written c =
 
 pub returns-clause-reads_back : goal.returns-clause-reads_back
 returns-clause-reads_back c =
-    let plain = plain_onboarding c.args.onboarding.now in
+    let onboarding = c.args.onboarding.now in
+    let plain = plain_onboarding onboarding in
     let again = rw c.in_ok-value.ensures at c.write.ensures.reads_back in
-    IfOk-weaker c.write.result _ _ (λ bytes h value is. (onboarding_value c.args.onboarding.now, h (omega (arith, plain.shallow)), onboarding_reads_back value c.args.onboarding.now is.1)) again
+    IfOk-weaker c.write.result _ _
+    (λ bytes h value is. (onboarding_value onboarding, h (omega (arith, plain.shallow)), onboarding_reads_back value onboarding is.1))
+    again

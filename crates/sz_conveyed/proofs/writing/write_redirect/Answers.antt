@@ -13,6 +13,9 @@ returns-clause-written c =
 
 pub returns-clause-reads_back : goal.returns-clause-reads_back
 returns-clause-reads_back c =
-    let plain = plain_redirect c.args.targets.now in
+    let targets = c.args.targets.now in
+    let plain = plain_redirect targets in
     let again = rw c.in_ok-value.ensures at c.write.ensures.reads_back in
-    IfOk-weaker c.write.result _ _ (λ bytes h value is. (redirect_value c.args.targets.now, h (omega (arith, plain.shallow)), redirect_reads_back value c.args.targets.now is.1)) again
+    IfOk-weaker c.write.result _ _
+    (λ bytes h value is. (redirect_value targets, h (omega (arith, plain.shallow)), redirect_reads_back value targets is.1))
+    again
