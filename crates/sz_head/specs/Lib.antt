@@ -1,0 +1,6 @@
+pub mod Fields
+pub mod Head
+pub mod Left
+pub mod Parts
+pub mod Place
+pub mod Reading
