@@ -73,8 +73,7 @@ read_server entry h =
     let from_1 = neither _ _ h in
     let from_2 = neither _ _ from_1.1 in
     let address = read_member (required address_of name.Address entry) from_1.0 in
-    let port = read_member (optional port_of name.Port entry) from_2.0 in
-    (
+    let port = read_member (optional port_of name.Port entry) from_2.0 in (
       record { host = address.0; port = unwrap_or port.0 default_port },
       record { named = port.0; address = address.1; port = port.1; or_default = refl },
     )
@@ -90,7 +89,7 @@ read_servers (item entry entries) h =
 read_redirect : (value : Data) → redirect_fault value ≡ None → (targets : List Target) × IsRedirect value targets
 read_redirect value h =
     let top = read_inside (required object_of name.RedirectInformation value)
-        (λ information. first_inside (required some_list_of name.BootstrapServer information) servers_fault) h in
+    (λ information. first_inside (required some_list_of name.BootstrapServer information) servers_fault) h in
     let servers = read_inside (required some_list_of name.BootstrapServer top.0) servers_fault top.2 in
     let each = read_servers servers.0 servers.2 in
     (each.0, record { information = top.0; servers = servers.0; top = top.1; bootstrap_server = servers.1; each = each.1 })
@@ -108,7 +107,7 @@ read_hash : (entries : Items) → hash_fault entries ≡ None → (hash : Option
 read_hash no_items h = (None, refl)
 read_hash (item entry entries) h =
     let algorithm = read_inside (required text_of name.HashAlgorithm entry)
-        (λ algorithm. if is_sha256 algorithm then fault_of (required hash_of name.HashValue entry) else hash_fault entries) h in
+    (λ algorithm. if is_sha256 algorithm then fault_of (required hash_of name.HashValue entry) else hash_fault entries) h in
     let hash = read_hash_at (is_sha256 algorithm.0) entry (hash_fault entries) (NamesHash entries) (read_hash entries) algorithm.2 in
     (hash.0, (algorithm.0, algorithm.1, hash.1))
 
@@ -126,8 +125,7 @@ read_image value h =
     let os_version = read_member (optional short_text_of name.OsVersion value) from_2.0 in
     let uris = read_member (optional texts_of name.DownloadUri value) from_3.0 in
     let verification = read_inside (optional list_of name.ImageVerification value) hash_fault_where from_4.0 in
-    let hash = read_hash_where verification.0 verification.2 in
-    (
+    let hash = read_hash_where verification.0 verification.2 in (
       record { os_name = os_name.0; os_version = os_version.0; uris = unwrap_or uris.0 []; hash = hash.0 },
       record {
         uris = uris.0;
@@ -157,8 +155,7 @@ read_information information h =
     let handling = read_member (optional handling_of name.ConfigurationHandling information) from_2.0 in
     let pre = read_member (optional binary_of name.PreConfigurationScript information) from_3.0 in
     let configuration = read_member (optional binary_of name.Configuration information) from_4.0 in
-    let post = read_member (optional binary_of name.PostConfigurationScript information) from_5.0 in
-    (
+    let post = read_member (optional binary_of name.PostConfigurationScript information) from_5.0 in (
       record {
         image = image.0;
         handling = unwrap_or handling.0 default_handling;

@@ -138,14 +138,46 @@ fn faults_by_their_order(rt: HostRuntime) -> Result<(), JsonFault> {
     for (top, inside, want) in [
         (Name::RedirectInformation, "1", Name::RedirectInformation),
         (Name::RedirectInformation, "{}", Name::BootstrapServer),
-        (Name::RedirectInformation, r#"{"bootstrap-server":{}}"#, Name::BootstrapServer),
-        (Name::RedirectInformation, r#"{"bootstrap-server":"a"}"#, Name::BootstrapServer),
-        (Name::RedirectInformation, r#"{"bootstrap-server":[]}"#, Name::BootstrapServer),
-        (Name::RedirectInformation, r#"{"bootstrap-server":[1]}"#, Name::Address),
-        (Name::RedirectInformation, r#"{"bootstrap-server":[["a"]]}"#, Name::Address),
-        (Name::OnboardingInformation, "[]", Name::OnboardingInformation),
-        (Name::OnboardingInformation, r#"{"configuration-handling":1,"boot-image":1}"#, Name::BootImage),
-        (Name::OnboardingInformation, r#"{"configuration":1,"pre-configuration-script":1}"#, Name::PreConfigurationScript),
+        (
+            Name::RedirectInformation,
+            r#"{"bootstrap-server":{}}"#,
+            Name::BootstrapServer,
+        ),
+        (
+            Name::RedirectInformation,
+            r#"{"bootstrap-server":"a"}"#,
+            Name::BootstrapServer,
+        ),
+        (
+            Name::RedirectInformation,
+            r#"{"bootstrap-server":[]}"#,
+            Name::BootstrapServer,
+        ),
+        (
+            Name::RedirectInformation,
+            r#"{"bootstrap-server":[1]}"#,
+            Name::Address,
+        ),
+        (
+            Name::RedirectInformation,
+            r#"{"bootstrap-server":[["a"]]}"#,
+            Name::Address,
+        ),
+        (
+            Name::OnboardingInformation,
+            "[]",
+            Name::OnboardingInformation,
+        ),
+        (
+            Name::OnboardingInformation,
+            r#"{"configuration-handling":1,"boot-image":1}"#,
+            Name::BootImage,
+        ),
+        (
+            Name::OnboardingInformation,
+            r#"{"configuration":1,"pre-configuration-script":1}"#,
+            Name::PreConfigurationScript,
+        ),
     ] {
         let found = fault(rt.alloc(), top, inside.as_bytes())?;
         assert_eq!(rt; found, Some(want), "at {inside}");
@@ -328,7 +360,10 @@ fn what_is_written(rt: HostRuntime) -> Result<(), JsonFault> {
         (REDIRECT, WRITTEN_REDIRECT),
         (WRITTEN_REDIRECT, WRITTEN_REDIRECT),
     ] {
-        assert!(rt; rewritten(rt.alloc(), content)?.as_slice() == want, "at {content:?}");
+        assert!(rt;
+            rewritten(rt.alloc(), content)?.as_slice() == want,
+            "at {content:?}"
+        );
     }
     Ok(())
 }

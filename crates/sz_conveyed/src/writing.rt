@@ -65,11 +65,7 @@ fn information(alloc: Global, onboarding: &Onboarding) -> Result<Value, OutOfMem
         Name::ConfigurationHandling,
         handling(onboarding.handling),
     )?;
-    object.put_optional_binary(
-        alloc,
-        Name::PreConfigurationScript,
-        onboarding.pre.as_ref(),
-    )?;
+    object.put_optional_binary(alloc, Name::PreConfigurationScript, onboarding.pre.as_ref())?;
     object.put_optional_binary(
         alloc,
         Name::Configuration,

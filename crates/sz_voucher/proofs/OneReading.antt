@@ -37,8 +37,7 @@ read_members inside h =
     let pinned = read_member (required binary_of name.PinnedDomainCert inside) from_6.0 in
     let checks = read_member (optional flag_of name.DomainCertRevocationChecks inside) from_7.0 in
     let nonce = read_member (optional nonce_of name.Nonce inside) from_8.0 in
-    let renewal = read_member (optional date_time_of name.LastRenewalDate inside) from_9.0 in
-    (
+    let renewal = read_member (optional date_time_of name.LastRenewalDate inside) from_9.0 in (
       record {
         expires_on = expires_on.0;
         serial = serial.0;

@@ -44,11 +44,7 @@ const MEMBERS: [(Name, &str, bool); 9] = [
     (Name::PinnedDomainCert, r#""Zm9vYg==""#, true),
     (Name::DomainCertRevocationChecks, "true", false),
     (Name::Nonce, r#""AAECAwQFBgc=""#, false),
-    (
-        Name::LastRenewalDate,
-        r#""2017-10-07T19:31:42Z""#,
-        false,
-    ),
+    (Name::LastRenewalDate, r#""2017-10-07T19:31:42Z""#, false),
 ];
 
 // a voucher whose member of this name has another value, or is left out
@@ -83,7 +79,11 @@ fn each_member_missing_and_of_another_kind(rt: HostRuntime) -> Result<(), JsonFa
         assert_eq!(rt; fault(rt.alloc(), name, Some(value))?, None);
         assert_eq!(rt; fault(rt.alloc(), name, None)?, missing);
         for other in ["null", "1", "[]", "{}"] {
-            assert_eq!(rt; fault(rt.alloc(), name, Some(other))?, Some(name), "{other}");
+            assert_eq!(rt;
+                fault(rt.alloc(), name, Some(other))?,
+                Some(name),
+                "{other}"
+            );
         }
     }
     Ok(())
