@@ -86,7 +86,8 @@ needs_minor kind = needs_one (least_after_version kind) is_minor (AfterVersion k
 
 needs_version : (kind : Kind) (count : ℕ) → Needs ((7 - count) + (1 + least_after_version kind)) (Due (drop count version_name) (MinorLeft kind))
 needs_version kind count text rest x =
-    omega (arith, length-drop count version_name, needs_due (1 + least_after_version kind) (drop count version_name) (MinorLeft kind) (needs_minor kind) text rest x)
+    let n = needs_due (1 + least_after_version kind) (drop count version_name) (MinorLeft kind) (needs_minor kind) text rest x in
+    omega (arith, length-drop count version_name)
 
 needs_method : (kind : Kind) → Needs (11 + least_after_version kind) (MethodLeft kind)
 needs_method kind text rest x =
@@ -105,7 +106,8 @@ needs_left kind bytes EmptyLines = needs_blank 14 (StartLine kind) (needs_start 
 needs_left kind bytes EmptyLineEnd = needs_due 14 (10 ∷ []) (Blank (StartLine kind)) (needs_blank 14 (StartLine kind) (needs_start kind))
 needs_left kind bytes Method = needs_method kind
 needs_left kind bytes (Target start) = λ text rest x.
-    let n = needs_target ((7 - 0) + (1 + least_after_version kind)) (drop start bytes) (Due version_name (MinorLeft kind)) (needs_version kind 0) text rest x.left in
+    let whole = (7 - 0) + (1 + least_after_version kind) in
+    let n = needs_target whole (drop start bytes) (Due version_name (MinorLeft kind)) (needs_version kind 0) text rest x.left in
     omega arith
 needs_left kind bytes (Version count) = λ text rest x. omega (arith, needs_version kind count text rest x)
 needs_left kind bytes RequestLineEnd = needs_ends 1 (Lines most_fields) (needs_lines most_fields)
@@ -214,7 +216,8 @@ has_method kind =
     (has_target (8 + least_after_version kind) (Due version_name (MinorLeft kind)) (eight (has_version kind 0))) in
     (x.0, omega (arith, x.1), x.2)
   where
-    eight : Has ((7 - 0) + 1 + least_after_version kind) (Due version_name (MinorLeft kind)) → Has (8 + least_after_version kind) (Due version_name (MinorLeft kind))
+    eight : Has ((7 - 0) + 1 + least_after_version kind) (Due version_name (MinorLeft kind))
+        → Has (8 + least_after_version kind) (Due version_name (MinorLeft kind))
     eight v = (v.0, omega (arith, v.1), v.2)
 
 has_start : (kind : Kind) → Has 14 (StartLine kind)

@@ -1,4 +1,3 @@
-pub mod Fields
 pub mod Head
 pub mod Left
 pub mod Parts

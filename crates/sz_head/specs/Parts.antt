@@ -1,11 +1,11 @@
 -- The parts of a whole head.
-use Rattle.std.specs.Prelude.{◌≡◌, ℕ, List, [], map}
+use Rattle.std.specs.Prelude.{◌≡◌, ℕ, List, [], map, take}
 use Rattle.httparse.specs.Grammar.{LineEnd, Field, ReadsSection, RequestHead, ReadsRequest, ResponseHead, ReadsResponse, status_code}
-use Rattle.httparse.specs.Spans.{name_and_value}
+use Rattle.httparse.specs.Spans.{name_and_value, header_bytes}
 use Rattle.sz_head.specs.declared.kind.Kind.{Kind}
 use Rattle.sz_head.specs.declared.kind.Kind.TheVariants.{Request, Reply, Trailer}
+use Rattle.sz_head.specs.declared.head.Fields.{Fields}
 use Rattle.sz_head.specs.declared.head.Head.{Head}
-use Rattle.sz_head.specs.Fields.{fields_at}
 
 -- a head by its parts: a reply has no method and no target, a request has status 0, a trailer has fields alone
 pub record Parts : Type 0 where
@@ -49,6 +49,10 @@ HasParts Reply text parts = (head : ResponseHead) × ReadsResponse text head [] 
 HasParts Trailer text parts =
     (fields : List Field) × (last : LineEnd) × ReadsSection text fields last [] × (parts ≡ trailer_parts fields)
 
+-- the names and the values of the fields, which the first count spans cover
+abbrev pub fields_of : Fields → List (List ℕ × List ℕ)
+fields_of fields = map (header_bytes fields.bytes.now) (take fields.count fields.spans)
+
 -- what a head stands for
 abbrev pub parts_of : Head → Parts
 parts_of head = record {
@@ -56,5 +60,5 @@ parts_of head = record {
   target = head.target.now;
   status = head.status;
   minor = head.minor;
-  fields = fields_at head.fields.bytes.now head.fields.spans head.fields.count;
+  fields = fields_of head.fields;
 }

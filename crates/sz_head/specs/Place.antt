@@ -66,7 +66,8 @@ Came kind bytes EmptyLines = (kind ≢ Trailer) × ((ends : List LineEnd) × (by
 Came kind bytes EmptyLineEnd =
     (kind ≢ Trailer) × ((ends : List LineEnd) × (bytes ≡ print_blank ends ++ carriage_return ∷ []))
 Came kind bytes Method =
-    (kind ≡ Request) × ((ends : List LineEnd) × (method : List ℕ) × IsToken method × (bytes ≡ print_blank ends ++ method))
+    (kind ≡ Request)
+    × ((ends : List LineEnd) × (method : List ℕ) × IsToken method × (bytes ≡ print_blank ends ++ method))
 Came kind bytes (Target start) = (kind ≡ Request) × EndsInTarget bytes
 Came kind bytes _ = ⊤
 

@@ -1,8 +1,7 @@
 //! The parts of a whole head, as `httparse` reads them.
 
-ghost use Rattle.std.specs.Prelude.{◌≡◌, ◌≤◌, length, slice_get, Some, IfSome, IfNone, IsSomeAnd};
+ghost use Rattle.std.specs.Prelude.{◌≡◌, ◌≤◌, length, slice_get, Some, IfSome, IfNone};
 ghost use Rattle.httparse.specs.Spans.{IsSectionWithin};
-ghost use Rattle.sz_head.specs.Fields.{fields_at};
 
 use crate::MOST_FIELDS;
 use httparse::spans::HeaderSpan;
@@ -23,7 +22,7 @@ pub struct Head<'a> {
 }
 
 /// The fields of a head in their order, each a name and a value without the white space around it. Contracts see
-/// them by `fields_at`.
+/// them by `fields_of`.
 #[derive(Clone, Copy)]
 pub struct Fields<'a> {
     pub(crate) bytes: &'a [u8],
@@ -33,18 +32,19 @@ pub struct Fields<'a> {
 }
 
 impl<'a> Fields<'a> {
+    ghost use Rattle.sz_head.specs.Parts.{fields_of};
+
     /// How many fields there are.
     pub fn len(&self) -> usize
-        ensures { result ≡ length (fields_at self.now.bytes.now self.now.spans self.now.count) }
+        ensures { result ≡ length (fields_of self.now) }
     {
         self.count
     }
 
     /// The name and the value of the field at this index, counted from 0.
     pub fn get(&self, index: usize) -> Option<(&'a [u8], &'a [u8])>
-        ensures some { IfSome result (λ field. slice_get (fields_at self.now.bytes.now self.now.spans self.now.count) index
-            ≡ Some (field.0.now, field.1.now)) }
-        ensures none { IfNone result (self.now.count ≤ index) }
+        ensures some { IfSome result (λ field. slice_get (fields_of self.now) index ≡ Some (field.0.now, field.1.now)) }
+        ensures none { IfNone result (length (fields_of self.now) ≤ index) }
     {
         if index >= self.count {
             return None;

@@ -20,7 +20,8 @@ pub(crate) fn parts(kind: Kind, bytes: &[u8]) -> Option<Head<'_>>
 }
 
 fn request_parts(bytes: &[u8]) -> Option<Head<'_>>
-    ensures { IsHead Kind.Request bytes.now → IsSomeAnd result (λ head. HasParts Kind.Request bytes.now (parts_of head)) }
+    ensures { IsHead Kind.Request bytes.now
+        → IsSomeAnd result (λ head. HasParts Kind.Request bytes.now (parts_of head)) }
 {
     let mut spans = [EMPTY_HEADER_SPAN; MOST_FIELDS];
     match parse_request(bytes, &mut spans) {
@@ -40,7 +41,8 @@ fn request_parts(bytes: &[u8]) -> Option<Head<'_>>
 }
 
 fn reply_parts(bytes: &[u8]) -> Option<Head<'_>>
-    ensures { IsHead Kind.Reply bytes.now → IsSomeAnd result (λ head. HasParts Kind.Reply bytes.now (parts_of head)) }
+    ensures { IsHead Kind.Reply bytes.now
+        → IsSomeAnd result (λ head. HasParts Kind.Reply bytes.now (parts_of head)) }
 {
     let mut spans = [EMPTY_HEADER_SPAN; MOST_FIELDS];
     match parse_response(bytes, &mut spans) {
@@ -60,7 +62,8 @@ fn reply_parts(bytes: &[u8]) -> Option<Head<'_>>
 }
 
 fn trailer_parts(bytes: &[u8]) -> Option<Head<'_>>
-    ensures { IsHead Kind.Trailer bytes.now → IsSomeAnd result (λ head. HasParts Kind.Trailer bytes.now (parts_of head)) }
+    ensures { IsHead Kind.Trailer bytes.now
+        → IsSomeAnd result (λ head. HasParts Kind.Trailer bytes.now (parts_of head)) }
 {
     let mut spans = [EMPTY_HEADER_SPAN; MOST_FIELDS];
     match parse_headers(bytes, &mut spans) {

@@ -122,7 +122,8 @@ fn least_after_version(kind: Kind) -> usize
 
 // Where a byte leads that has to be this one.
 fn at_due(byte: u8, due: u8, next: Place) -> Place
-    ensures leads { (kind : Kind) (bytes : List ℕ) → Leads kind bytes (Due (due ∷ []) (Left kind bytes next)) byte result }
+    ensures leads { (kind : Kind) (bytes : List ℕ)
+        → Leads kind bytes (Due (due ∷ []) (Left kind bytes next)) byte result }
     ensures either { IsDueOr byte due next result }
 {
     if byte == due { next } else { Place::Nowhere }
@@ -174,7 +175,8 @@ fn in_method(byte: u8, bytes: &[u8]) -> Place
 // Where a byte leads in a target that began at this index. At its end the target has to be a text.
 fn in_target(start: usize, byte: u8, bytes: &[u8]) -> Place
     ensures leads { (kind : Kind) → Leads kind (bytes.now ++ byte ∷ []) (TargetFrom kind start bytes.now) byte result }
-    ensures came { (kind : Kind) → Came kind bytes.now (Place.Target start) → Came kind (bytes.now ++ byte ∷ []) result }
+    ensures came { (kind : Kind) → Came kind bytes.now (Place.Target start)
+        → Came kind (bytes.now ++ byte ∷ []) result }
 {
     if start > bytes.len() {
         return Place::Nowhere;

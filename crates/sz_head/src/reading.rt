@@ -1,6 +1,6 @@
 //! A head that is kept as its bytes come.
 
-ghost use Rattle.std.specs.Prelude.{◌≡◌, ◌≢◌, ◌+◌, ◌<◌, ◌≤◌, ◌++◌, ◌∷◌, [], ℕ, List, IsTrue, length, take, vec_capacity, IfOk, IfSome, IfNone, OnErr, IsErr};
+ghost use Rattle.std.specs.Prelude.{◌≡◌, ◌≤◌, ◌++◌, ◌∷◌, [], ℕ, List, IsTrue, length, take, vec_capacity, IfOk, IfSome, IfNone, OnErr, IsErr};
 ghost use Rattle.sz_head.specs.Place.{is_open};
 
 use crate::parts::parts;

@@ -12,16 +12,15 @@ const REPLY: &[u8] = b"HTTP/1.0 404 Not Found\r\nContent-Length:0 \t\r\n\r\n";
 
 const TRAILER: &[u8] = b"Digest: x\r\nEmpty:\r\n\r\n";
 
-// What comes of a text that is fed in two pieces: how many bytes of it are the head, or none.
-fn in_two(alloc: Global, kind: Kind, text: &[u8], cut: usize) -> Result<Option<usize>, Fail> {
+// Whether a text that is fed in two pieces is a head that ends with its last byte.
+fn is_head_in_two(alloc: Global, kind: Kind, text: &[u8], cut: usize) -> Result<bool, Fail> {
     let mut reading = HeadReading::create(alloc, kind)?;
     let (first, second) = text.split_at(cut.min(text.len()));
-    if let Ok(Progress::Whole { used }) = reading.feed(first) {
-        return Ok(Some(used));
-    }
-    match reading.feed(second) {
-        Ok(Progress::Whole { used }) => Ok(Some(first.len() + used)),
-        _ => Ok(None),
+    match reading.feed(first) {
+        Ok(Progress::More) => Ok(
+            reading.feed(second) == Ok(Progress::Whole { used: second.len() }),
+        ),
+        answer => Ok(second.is_empty() && answer == Ok(Progress::Whole { used: first.len() })),
     }
 }
 
@@ -37,9 +36,8 @@ fn heads_cut_at_every_place(rt: HostRuntime) -> Result<(), Fail> {
         (Kind::Trailer, b"\n"),
     ] {
         for cut in 0..=text.len() {
-            assert_eq!(rt;
-                in_two(rt.alloc(), kind, text, cut)?,
-                Some(text.len()),
+            assert!(rt;
+                is_head_in_two(rt.alloc(), kind, text, cut)?,
                 "{text:?} at {cut}"
             );
         }
@@ -47,36 +45,46 @@ fn heads_cut_at_every_place(rt: HostRuntime) -> Result<(), Fail> {
     Ok(())
 }
 
-// After how many bytes no head can come, or how many bytes the head has.
-fn byte_by_byte(reading: &mut HeadReading, text: &[u8]) -> Option<Result<usize, usize>> {
+// What a text comes to that is fed byte by byte, and the index of the byte that decides it.
+fn byte_by_byte(
+    reading: &mut HeadReading,
+    text: &[u8],
+) -> Option<(usize, Result<Progress, NoHead>)> {
     for (index, byte) in text.iter().enumerate() {
-        match reading.feed(&[*byte]) {
-            Ok(Progress::More) => {}
-            Ok(Progress::Whole { used }) => return Some(Ok(index + used)),
-            Err(NoHead) => return Some(Err(index)),
+        let answer = reading.feed(&[*byte]);
+        if answer != Ok(Progress::More) {
+            return Some((index, answer));
         }
     }
     None
 }
 
+const WHOLE: Result<Progress, NoHead> = Ok(Progress::Whole { used: 1 });
+
+const NONE: Result<Progress, NoHead> = Err(NoHead);
+
 #[test]
 fn refused_at_the_byte_that_decides_it(rt: HostRuntime) -> Result<(), Fail> {
     let mut reading = HeadReading::create(rt.alloc(), Kind::Request)?;
     for (kind, text, want) in [
-        (Kind::Request, &b"GET / HTTP/1.1\r\n\r\nx"[..], Some(Ok(18))),
+        (
+            Kind::Request,
+            &b"GET / HTTP/1.1\r\n\r\nx"[..],
+            Some((17, WHOLE)),
+        ),
         (Kind::Request, b"GET / HTTP/1.1\r\n\r", None),
-        (Kind::Request, b"GET  / HTTP/1.1", Some(Err(4))),
-        (Kind::Request, b"(ET", Some(Err(0))),
-        (Kind::Request, b"GET /\xff HTTP", Some(Err(6))),
-        (Kind::Request, b"GET /\xc3\xa9 HTTP/1.2", Some(Err(15))),
-        (Kind::Request, b"GET / HTTP/1.1\rX", Some(Err(15))),
-        (Kind::Request, b"GET / HTTP/1.1\n A: b", Some(Err(15))),
-        (Kind::Request, b"GET / HTTP/1.1\nA : b", Some(Err(16))),
-        (Kind::Reply, b"HTTP/1.1 2000", Some(Err(12))),
-        (Kind::Reply, b"HTTX", Some(Err(3))),
-        (Kind::Reply, b"\rHTTP", Some(Err(1))),
-        (Kind::Trailer, b"A: b\x00", Some(Err(4))),
-        (Kind::Trailer, b": b", Some(Err(0))),
+        (Kind::Request, b"GET  / HTTP/1.1", Some((4, NONE))),
+        (Kind::Request, b"(ET", Some((0, NONE))),
+        (Kind::Request, b"GET /\xff HTTP", Some((6, NONE))),
+        (Kind::Request, b"GET /\xc3\xa9 HTTP/1.2", Some((15, NONE))),
+        (Kind::Request, b"GET / HTTP/1.1\rX", Some((15, NONE))),
+        (Kind::Request, b"GET / HTTP/1.1\n A: b", Some((15, NONE))),
+        (Kind::Request, b"GET / HTTP/1.1\nA : b", Some((16, NONE))),
+        (Kind::Reply, b"HTTP/1.1 2000", Some((12, NONE))),
+        (Kind::Reply, b"HTTX", Some((3, NONE))),
+        (Kind::Reply, b"\rHTTP", Some((1, NONE))),
+        (Kind::Trailer, b"A: b\x00", Some((4, NONE))),
+        (Kind::Trailer, b": b", Some((0, NONE))),
     ] {
         reading.begin(kind);
         assert_eq!(rt; byte_by_byte(&mut reading, text), want, "{text:?}");
@@ -87,7 +95,7 @@ fn refused_at_the_byte_that_decides_it(rt: HostRuntime) -> Result<(), Fail> {
 #[test]
 fn the_limits(rt: HostRuntime) -> Result<(), Fail> {
     let mut reading = HeadReading::create(rt.alloc(), Kind::Trailer)?;
-    for (fields, want) in [(64, Some(Ok(257))), (65, Some(Err(256)))] {
+    for (fields, want) in [(64, Some((256, WHOLE))), (65, Some((256, NONE)))] {
         let mut text = Vec::new(rt.alloc());
         for _ in 0..fields {
             text.extend_from_slice(b"a:\r\n")?;
@@ -97,11 +105,11 @@ fn the_limits(rt: HostRuntime) -> Result<(), Fail> {
         assert_eq!(rt; byte_by_byte(&mut reading, text.as_slice()), want);
     }
     for (length, want) in [
-        (MOST_BYTES, Some(Ok(MOST_BYTES))),
-        (MOST_BYTES + 1, Some(Err(MOST_BYTES - 2))),
+        (MOST_BYTES, Some((MOST_BYTES - 1, WHOLE))),
+        (MOST_BYTES + 1, Some((MOST_BYTES - 2, NONE))),
     ] {
         let mut text = Vec::from_slice(rt.alloc(), b"HTTP/1.1 200 ")?;
-        while text.len() < length - 2 {
+        for _ in 15..length {
             text.push(b'a')?;
         }
         text.extend_from_slice(b"\n\n")?;
@@ -112,7 +120,7 @@ fn the_limits(rt: HostRuntime) -> Result<(), Fail> {
 }
 
 #[test]
-fn the_parts_of_a_head(rt: HostRuntime) -> Result<(), Fail> {
+fn the_parts_of_a_request(rt: HostRuntime) -> Result<(), Fail> {
     let mut reading = HeadReading::create(rt.alloc(), Kind::Request)?;
     assert!(rt; reading.head().is_none());
     assert_eq!(rt;
@@ -136,6 +144,13 @@ fn the_parts_of_a_head(rt: HostRuntime) -> Result<(), Fail> {
         Some((b"Sztp-Serial-Number".as_slice(), b"A1".as_slice()))
     );
     assert_eq!(rt; request.fields.get(3), None);
+    Ok(())
+}
+
+#[test]
+fn the_parts_of_a_reply_behind_a_request(rt: HostRuntime) -> Result<(), Fail> {
+    let mut reading = HeadReading::create(rt.alloc(), Kind::Request)?;
+    assert_eq!(rt; reading.feed(b"GET "), Ok(Progress::More));
     reading.begin(Kind::Reply);
     assert_eq!(rt;
         reading.feed(REPLY),
