@@ -1,0 +1,10 @@
+pub mod Joined
+pub mod Entries
+pub mod Fields
+pub mod Lists
+pub mod Options4
+pub mod Options6
+pub mod Reading4
+pub mod Reading6
+pub mod Steps6
+pub mod Told
