@@ -1,5 +1,5 @@
 -- The form of a command, argument by argument, the words as texts, word by word, and what a form takes of texts.
-use Rattle.std.proofs.Common.{◌≡◌, ◌∙◌, ℕ, ◌<◌, ◌+◌, Bool, true, false, List, [], ◌∷◌, ◌++◌, length, map, take, get_or, IsUtf8, Option, Some, None, refl, sym, ap, ap₂, inl, inr, arith}
+use Rattle.std.proofs.Common.{◌≡◌, ◌∙◌, ℕ, ◌<◌, ◌+◌, Bool, true, false, List, [], ◌∷◌, ◌++◌, length, map, take, get_or, IsUtf8, Option, Some, None, option_and_then, refl, sym, ap, ap₂, inl, inr, arith}
 use Rattle.std.specs.Borrow.{Bor}
 use Rattle.std.specs.List.{list_all}
 use Rattle.std.specs.Str.{is_utf8}
@@ -16,7 +16,8 @@ use Rattle.clap.specs.Walk.{Row, Rule, rows_of}
 use Rattle.clap.specs.declared.error.Error.{Error}
 use Rattle.clap.specs.declared.error.kind.ErrorKind.TheVariants.{OutOfMemory}
 use Rattle.clap.specs.declared.parser.matches.ArgMatches.{ArgMatches}
-use Rattle.sztp.specs.Forms.{argument, form_of, if_faultless, taken}
+use Rattle.sztp.specs.Forms.{argument, form_of, if_faultless, matched, taken}
+use Rattle.sztp.specs.Words.{check_form, check_matched}
 
 abbrev text : Bor (List ℕ) → List ℕ
 text lent = lent.now
@@ -79,3 +80,8 @@ taken_ok form texts matches free none has =
 pub taken_err : (form : App) (texts : List (List ℕ)) (error : Error) → HasKind (fault_of form texts) error → (kind_of error ≡ OutOfMemory → ⊥) → None ≡ taken form texts
 unfolding taken
 taken_err form texts error has other = refused (fault_of form texts) (matches_of form texts) error has other
+
+-- what a check is read from, once its words are texts
+pub read_rows : (words : List (List ℕ)) (got : Option (List Row)) → list_all is_utf8 words ≡ true → got ≡ taken check_form words
+    → option_and_then check_matched got ≡ option_and_then check_matched (matched check_form words)
+read_rows words got texts is = rw texts (ap (option_and_then check_matched) is)

@@ -1,5 +1,5 @@
 -- Which words are a check: three that don't begin with a hyphen, and three behind `--`.
-use Rattle.std.proofs.Common.{◌≡◌, ◌≢◌, ◌∙◌, ℕ, Bool, true, false, List, [], ◌∷◌, Option, Some, None, codes, is_some, slice_index, nat_eq, refl, ap, ap₂, option_and_then, if◌then◌else◌}
+use Rattle.std.proofs.Common.{◌≡◌, ◌≢◌, ◌==◌, ◌∙◌, ℕ, Bool, true, false, List, [], ◌∷◌, Option, Some, None, codes, is_some, slice_index, nat_eq, refl, ap, ap₂, option_and_then, if◌then◌else◌}
 use Rattle.std.specs.List.{list_all}
 use Rattle.std.specs.Str.{chars, is_utf8}
 use Rattle.std.specs.Prelude.{encode_utf8, encode_utf8_all}
@@ -21,7 +21,7 @@ matched_texts form words texts = rw texts refl
 -- ---- behind `--`
 
 dashes_are_text : is_utf8 (codes "--") ≡ true
-unfolding is_utf8 chars
+unfolding clap_on_literals is_utf8
 dashes_are_text = refl
 
 taken_behind_dashes : (public file signature : List ℕ)
@@ -43,23 +43,23 @@ abbrev at : Held → ℕ → Walk
 at held position = record { held = held; waiting = idle; position = position; is_trailing = false; stopped = None }
 
 met_plain : (rules : List Rule) (position : ℕ) (word : List ℕ) (held : Held) → slice_index word 0 ≢ 45 → word_met rules [] false idle position word held ≡ (held, value)
-met_plain rules position [] held no = refl
-met_plain rules position (x ∷ xs) held no = let other : nat_eq x 45 ≡ false = equal-false x 45 no in rw other refl
+met_plain rules position [] held differs = refl
+met_plain rules position (x ∷ xs) held differs = let other : nat_eq x 45 ≡ false = equal-false x 45 differs in let same : (x == 45) ≡ false = other in rw (other, same) refl
 
 sound_plain : (shape : Shape) (word : List ℕ) (held : Held) → slice_index word 0 ≢ 45 → word_fault shape [] false idle word held ≡ []
-sound_plain shape [] held no = refl
-sound_plain shape (x ∷ xs) held no = let other : nat_eq x 45 ≡ false = equal-false x 45 no in rw other refl
+sound_plain shape [] held differs = refl
+sound_plain shape (x ∷ xs) held differs = let other : nat_eq x 45 ≡ false = equal-false x 45 differs in let same : (x == 45) ≡ false = other in rw (other, same) refl
 
 walked_plain : (rules : List Rule) (held : Held) (position : ℕ) (word : List ℕ) → slice_index word 0 ≢ 45
     → walked rules [] (at held position) word ≡ after_step rules word (at held position) held value
 unfolding walked
-walked_plain rules held position word no =
-    ap (λ (met : Held × Step). after_step rules word (at held position) met.0 met.1) (met_plain rules position word held no)
+walked_plain rules held position word differs =
+    ap (λ (met : Held × Step). after_step rules word (at held position) met.0 met.1) (met_plain rules position word held differs)
 
 turn_plain : (shape : Shape) (held : Held) (position : ℕ) (word : List ℕ) → slice_index word 0 ≢ 45
     → turn_fault shape [] (at held position) word ≡ step_fault shape position held value
-turn_plain shape held position word no =
-    ap₂ or_else (sound_plain shape word held no) (ap (λ (met : Held × Step). step_fault shape position met.0 met.1) (met_plain shape.rules position word held no))
+turn_plain shape held position word differs =
+    ap₂ or_else (sound_plain shape word held differs) (ap (λ (met : Held × Step). step_fault shape position met.0 met.1) (met_plain shape.rules position word held differs))
 
 -- ---- a check
 
@@ -73,9 +73,9 @@ rules = app.top.rules
 fault_next : (held : Held) (position : ℕ) (word : List ℕ) (rest : List (List ℕ)) → slice_index word 0 ≢ 45 → step_fault app.top position held value ≡ []
     → walk_fault app.top [] (at held position) (word ∷ rest) ≡ walk_fault app.top [] (after_step rules word (at held position) held value) rest
 unfolding walk_fault
-fault_next held position word rest no fits =
-    ap₂ or_else (turn_plain app.top held position word no ∙ fits)
-    (ap (λ (w : Walk). walk_fault app.top [] w rest) (walked_plain rules held position word no))
+fault_next held position word rest differs fits =
+    ap₂ or_else (turn_plain app.top held position word differs ∙ fits)
+    (ap (λ (w : Walk). walk_fault app.top [] w rest) (walked_plain rules held position word differs))
 
 -- the faults of a check, by those of its words and by where the walk ends
 abbrev faults_with : Kinds → Walk → Kinds
@@ -120,9 +120,9 @@ module _ (public file signature : List ℕ) where
     fourth_faulty : (fourth : List ℕ) (rest : List (List ℕ)) → slice_index fourth 0 ≢ 45
         → fault_of check_form (public ∷ file ∷ signature ∷ fourth ∷ rest) ≡ UnknownArgument ∷ []
     unfolding walk_fault
-    fourth_faulty fourth rest no =
+    fourth_faulty fourth rest differs =
         let words : List (List ℕ) = public ∷ file ∷ signature ∷ fourth ∷ rest in
-        let stray = ap (λ (k : Kinds). or_else k (walk_fault app.top [] (walked rules [] (at held₃ 4) fourth) rest)) (turn_plain app.top held₃ 4 fourth no) in
+        let stray = ap (λ (k : Kinds). or_else k (walk_fault app.top [] (walked rules [] (at held₃ 4) fourth) rest)) (turn_plain app.top held₃ 4 fourth differs) in
         ap (λ (k : Kinds). faults_with k (walk rules [] nothing_held words)) (faults_behind (fourth ∷ rest) ∙ stray)
 
 pub plain : (public file signature : List ℕ) → IsPlain public → IsPlain file → IsPlain signature
