@@ -9,5 +9,5 @@ mod print;
 
 pub use ending::{Ending, Status};
 pub use failure::Failure;
-pub use input::read_input;
+pub use input::{input_size, read_front, read_input};
 pub use print::{say, say_failure};

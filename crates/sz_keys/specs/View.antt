@@ -10,7 +10,7 @@ use Rattle.sz_keys.specs.declared.verdict.Checked.{Checked}
 use Rattle.sz_keys.specs.declared.verdict.Checked.TheVariants.{Valid, NotValid}
 
 abbrev pub paths_of : CheckPaths → spec.Paths
-paths_of paths = record { public = paths.public.now; file = paths.file.now; signature = paths.signature.now }
+paths_of paths = record { public = paths.public; file = paths.file; signature = paths.signature }
 
 -- the first rule that a signature breaks, by what is said of it
 abbrev pub broken_rule : Checked → Option Rule

@@ -26,7 +26,7 @@ leaf_small q height h l =
     let below : height ≤ 32 = omega arith in
     lt_of_lt_of_le l (pow_mono below)
 
-both_parts : (height : Option ℕ) (ots : Option OtsType) (type : TreeType) → both height ots ≡ Some type
+pub both_parts : (height : Option ℕ) (ots : Option OtsType) (type : TreeType) → both height ots ≡ Some type
     → (height ≡ Some type.height) × (ots ≡ Some type.ots)
 both_parts None ots type h = cc
 both_parts (Some height) None type h = cc

@@ -13,3 +13,4 @@ pub mod LawBytes
 pub mod LawOts
 pub mod LawLms
 pub mod LawHss
+pub mod Longest

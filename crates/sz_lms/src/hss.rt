@@ -11,7 +11,11 @@ use crate::bytes::u32_at;
 use crate::level::Level;
 use crate::types::KeyTypes;
 
-const PUBLIC_LENGTH: usize = 60;
+/// How many bytes a public key has (RFC 8554 section 6.1).
+pub const HSS_PUBLIC_LENGTH: usize = 60;
+
+/// The most bytes that a signature has: of eight levels, each with the longest LMS signature (RFC 8554 section 6.2).
+pub const LONGEST_SIGNATURE: usize = 74_988;
 
 const MOST_LEVELS: u32 = 8;
 
@@ -21,10 +25,10 @@ const MOST_LEVELS: u32 = 8;
 pub(crate) fn levels_below(public: &[u8], signature: &[u8]) -> Result<u32, HssFault>
     ensures rules { broken_rule result ≡ first_failing (head_rules public.now signature.now) }
     ensures below { IfOk result (λ below. below ≡ u32_at public.now 0 - 1) }
-    ensures public { OnOk result (length public.now ≡ PUBLIC_LENGTH) }
+    ensures public { OnOk result (length public.now ≡ HSS_PUBLIC_LENGTH) }
     ensures signature { OnOk result (4 ≤ length signature.now) }
 {
-    if public.len() != PUBLIC_LENGTH {
+    if public.len() != HSS_PUBLIC_LENGTH {
         return Err(HssFault::Length);
     }
     let levels = u32_at(public, 0);

@@ -28,6 +28,7 @@ pub use check::HssCheck;
 pub use digits::{digit, signed_bytes};
 pub use fault::HssFault;
 pub use hash::{hashed, inner_node, key_hasher, leaf_node};
+pub use hss::{HSS_PUBLIC_LENGTH, LONGEST_SIGNATURE};
 pub use ots::message_digest;
 pub use types::{LmsType, OtsType};
 pub use verify::{hss_verify, lms_verify, ots_candidate};

@@ -1,18 +1,45 @@
 -- The commands as data, and which command the words after the program's name are.
-use Rattle.std.specs.Prelude.{ℕ, List, [], ◌∷◌, Option, Some, None, if◌then◌else◌, codes}
-use Rattle.std.specs.Str.{bytes_eq}
+use Rattle.std.specs.Prelude.{◌≡◌, ◌≢◌, ℕ, true, List, [], ◌∷◌, Option, Some, None, if◌then◌else◌, codes, slice_index, option_and_then, option_map}
+use Rattle.std.specs.Str.{bytes_eq, is_utf8}
+use Rattle.clap.specs.Simple.{App}
+use Rattle.clap.specs.Walk.{Row, first_of}
 use Rattle.sz_keys.specs.CheckRan.{Paths}
+use Rattle.sztp.specs.Forms.{form_of, matched}
 
 pub data Command : Type 0 where
   -- `check PUBLIC FILE SIGNATURE`
   Check : Paths → Command
 
+-- ---- check
+
+abbrev pub check_form : App
+check_form = form_of (codes "check") (codes "PUBLIC" ∷ codes "FILE" ∷ codes "SIGNATURE" ∷ [])
+
 -- the check of these paths
 abbrev pub check_of : List ℕ → List ℕ → List ℕ → Command
 check_of public file signature = Check (record { public = public; file = file; signature = signature })
 
--- the command that the words are: `check` and three paths
+-- the check of the words that were matched to its arguments
+abbrev pub check_matched : List Row → Option Command
+check_matched rows =
+    option_and_then (λ public.
+    option_and_then (λ file.
+    option_map (λ signature. check_of public file signature)
+    (first_of (codes "SIGNATURE") rows)) (first_of (codes "FILE") rows)) (first_of (codes "PUBLIC") rows)
+
+-- ---- all commands
+
+-- the command with this name and these words behind it
+abbrev pub command_named : List ℕ → List (List ℕ) → Option Command
+command_named name words =
+    if bytes_eq name (codes "check") then option_and_then check_matched (matched check_form words)
+    else None
+
+-- The command that the words are: the first is its name, and the others are what clap matches to its form.
 abbrev pub words_of : List (List ℕ) → Option Command
-words_of (name ∷ public ∷ file ∷ signature ∷ []) =
-    if bytes_eq name (codes "check") then Some (check_of public file signature) else None
-words_of words = None
+words_of [] = None
+words_of (name ∷ words) = command_named name words
+
+-- the word is UTF-8 and doesn't begin with a hyphen (45)
+abbrev pub IsPlain : List ℕ → Type 0
+IsPlain word = (is_utf8 word ≡ true) × (slice_index word 0 ≢ 45)

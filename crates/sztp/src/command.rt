@@ -1,32 +1,74 @@
 //! The commands as data, and reading them from the words.
-ghost use Rattle.std.specs.Prelude.{◌≡◌};
+ghost use Rattle.std.specs.Prelude.{◌≡◌, IfOk, option_and_then};
 ghost use Rattle.std.specs.Option.{option_map};
+ghost use Rattle.clap.specs.Matches.{found_of};
+ghost use Rattle.clap.specs.Walk.{rows_of};
+ghost use Rattle.sztp.specs.Forms.{matched};
 ghost use Rattle.sztp.specs.View.{command_of};
-ghost use Rattle.sztp.specs.Words.{words_of};
+ghost use Rattle.sztp.specs.Words.{check_form, check_matched, words_of};
 
-use sz_base::Text;
+use crate::form::{form, taken, texts, word_of};
+use clap::ArgMatches;
+use std::alloc::Global;
+use sz_base::{OutOfMemory, Text};
 use sz_keys::CheckPaths;
 
+static CHECK_ARGUMENTS: [&str; 3] = ["PUBLIC", "FILE", "SIGNATURE"];
+
 /// A command with its values.
-#[derive(Clone, Copy)]
-pub enum Command<'a> {
+#[derive(Drop)]
+pub enum Command {
     /// Checks a signature of a file.
-    Check(CheckPaths<'a>),
+    Check(CheckPaths),
 }
 
-/// The command that the words are, or `None` where they are none.
-pub fn read_command<'a>(words: &'a [Text]) -> Option<Command<'a>>
-    ensures { option_map command_of result ≡ words_of words.entry.now }
+/// The command that the words are, or `None` where they are none. The first word is its name, and `clap` matches the
+/// others to its form.
+pub fn read_command(alloc: Global, words: &[Text]) -> Result<Option<Command>, OutOfMemory>
+    ensures { IfOk result (λ found. option_map command_of found ≡ words_of words.now) }
 {
-    let [name, public, file, signature] = words else {
-        return None;
+    let Some((name, words)) = words.split_first() else {
+        return Ok(None);
     };
-    if name.as_slice() != b"check".as_slice() {
-        return None;
+    if name.as_slice() == b"check".as_slice() {
+        return read_check(alloc, words);
     }
-    Some(Command::Check(CheckPaths {
-        public,
-        file,
-        signature,
-    }))
+    Ok(None)
+}
+
+// The check that the words behind its name are.
+fn read_check(alloc: Global, words: &[Text]) -> Result<Option<Command>, OutOfMemory>
+    ensures { IfOk result (λ found.
+        option_map command_of found ≡ option_and_then check_matched (matched check_form words.now)) }
+{
+    let Some(texts) = texts(alloc, words)? else {
+        return Ok(None);
+    };
+    let form = form(alloc, "check", CHECK_ARGUMENTS.as_slice())?;
+    match taken(form, texts.as_slice())? {
+        Some(matches) => check_matched(alloc, &matches),
+        None => Ok(None),
+    }
+}
+
+// The check of the words that were matched to its arguments.
+fn check_matched(alloc: Global, matches: &ArgMatches<'_>) -> Result<Option<Command>, OutOfMemory>
+    ensures { IfOk result (λ found.
+        option_map command_of found ≡ check_matched (rows_of (found_of matches.now))) }
+{
+    let Some(public) = word_of(matches, "PUBLIC") else {
+        return Ok(None);
+    };
+    let Some(file) = word_of(matches, "FILE") else {
+        return Ok(None);
+    };
+    let Some(signature) = word_of(matches, "SIGNATURE") else {
+        return Ok(None);
+    };
+    let paths = CheckPaths {
+        public: Text::from_slice(alloc, public.as_bytes())?,
+        file: Text::from_slice(alloc, file.as_bytes())?,
+        signature: Text::from_slice(alloc, signature.as_bytes())?,
+    };
+    Ok(Some(Command::Check(paths)))
 }

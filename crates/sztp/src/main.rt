@@ -1,8 +1,12 @@
 //! The program `sztp`.
 #![tactic(auto)]
 
+ghost use Rattle.std.specs.Prelude.{◌≡◌};
+ghost use Rattle.std.specs.Process.{exit_status};
+
 mod command;
 mod disks;
+mod form;
 mod law;
 mod run;
 mod words;
@@ -43,7 +47,9 @@ fn main(rt: HostRuntime) -> ExitCode {
 }
 
 // The end of the process with this status.
-fn ended(status: Status) -> ExitCode {
+fn ended(status: Status) -> ExitCode
+    ensures { exit_status result ≡ status.0 }
+{
     ExitCode::from(status.0)
 }
 

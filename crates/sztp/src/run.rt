@@ -7,7 +7,7 @@ use crate::command::{Command, read_command};
 use crate::world::{Observed, World};
 use std::alloc::Global;
 use std::thread::Threads;
-use sz_base::Text;
+use sz_base::{OutOfMemory, Text};
 use sz_commands::{Failure, Status, say_failure};
 use sz_disk::Disk;
 use sz_io::{Clock, Entropy, Folder, Listener, Net, Sink};
@@ -38,11 +38,12 @@ pub fn run<
     ensures causes { HasCauses words.now (⟦<World<'a, D, N, L, F, C, E, O> as Observed<D>>⟧.outside world.old)
         (⟦<World<'a, D, N, L, F, C, E, O> as Observed<D>>⟧.outside world.new) result.0 }
 {
-    match read_command(words) {
-        Some(Command::Check(paths)) => {
-            let answer = check(alloc, paths, world.folder);
+    match read_command(alloc, words) {
+        Ok(Some(Command::Check(paths))) => {
+            let answer = check(alloc, &paths, world.folder);
             say_checked(answer, world.out)
         }
-        None => say_failure(Failure::Usage, world.out),
+        Ok(None) => say_failure(Failure::Usage, world.out),
+        Err(OutOfMemory) => say_failure(Failure::OutOfMemory, world.out),
     }
 }

@@ -97,11 +97,16 @@ fn a_signature_of_other_software_is_valid_for_its_message_alone(
 #[test]
 fn words_and_faults_have_their_line_and_status(rt: HostRuntime) -> Result<(), Fail> {
     let alloc = rt.alloc();
-    let table: [(&[&[u8]], u64, u64, &[u8], u8); 8] = [
+    let table: [(&[&[u8]], u64, u64, &[u8], u8); 13] = [
         (&[], 0, 0, b"usage\n", 2),
         (&[b"check", b"p", b"m"], 0, 0, b"usage\n", 2),
         (&[b"check", b"p", b"m", b"s", b"s"], 0, 0, b"usage\n", 2),
         (&[b"verify", b"p", b"m", b"s"], 0, 0, b"usage\n", 2),
+        (&[b"check", b"--help"], 0, 0, b"usage\n", 2),
+        (&[b"check", b"p", b"m", b"-s"], 0, 0, b"usage\n", 2),
+        (&[b"check", b"p", b"m", b"\xff"], 0, 0, b"usage\n", 2),
+        (&[b"check", b"--", b"p", b"m", b"s"], 0, 0, b"valid\n", 0),
+        (&[b"check", b"p", b"m", b"p"], 0, 0, b"not valid: levels\n", 3),
         (
             &[b"check", b"missing.pub", b"m", b"s"],
             0,

@@ -1,3 +1,5 @@
+//! The words that the program is given.
+
 use std::alloc::Global;
 use std::env::FillError;
 use std::rt::Env;

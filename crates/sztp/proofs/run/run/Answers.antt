@@ -3,8 +3,8 @@ use Rattle.std.proofs.lemmas.Grind.{common_steps}
 use Rattle.sztp.proofs.Laws.{causes}
 use Rattle.sztp.proofs.run.run.Goals as goal
 
-pub returns-in-Some-Check-clause-ran : goal.returns-in-Some-Check-clause-ran
-returns-in-Some-Check-clause-ran g c = first_of (search rules, grind arith, grind (arith, common_steps))
+pub returns-in-Ok-Some-Check-clause-ran : goal.returns-in-Ok-Some-Check-clause-ran
+returns-in-Ok-Some-Check-clause-ran g c = first_of (search rules, grind arith, grind (arith, common_steps))
 
-pub returns-in-Some-Check-clause-causes : goal.returns-in-Some-Check-clause-causes
-returns-in-Some-Check-clause-causes g c = causes _ _ _ c.args.words.now (returns-in-Some-Check-clause-ran g c)
+pub returns-in-Ok-Some-Check-clause-causes : goal.returns-in-Ok-Some-Check-clause-causes
+returns-in-Ok-Some-Check-clause-causes g c = causes _ _ _ c.args.words.now (returns-in-Ok-Some-Check-clause-ran g c)
