@@ -2,7 +2,7 @@
 -- item's header before its content, in the order of the bytes.
 use Rattle.std.specs.Prelude.{ℕ, ◌+◌, ◌&&◌, ◌||◌, ◌==◌, not, if◌then◌else◌, Bool, List, [], ◌∷◌, ◌++◌, length, take, drop, Option, Some, None, bytes_eq}
 use Rattle.std.specs.List.{list_any}
-use Rattle.sz_der.specs.declared.tag.TheConstants.{BIT_STRING, BOOLEAN, CONTEXT_CONSTRUCTED, CONTEXT_PRIMITIVE, INTEGER, OBJECT_IDENTIFIER, OCTET_STRING, SEQUENCE}
+use Rattle.sz_der.specs.declared.tag.TheConstants.{BIT_STRING, BOOLEAN, CONTEXT_CONSTRUCTED, INTEGER, OBJECT_IDENTIFIER, OCTET_STRING, SEQUENCE}
 use Rattle.sz_x509.specs.Certificate.{key_length}
 use Rattle.sz_x509.specs.Contents.{is_bits, is_boolean, is_integer, is_time, is_true_content, is_u32, is_whole_octets}
 use Rattle.sz_x509.specs.Extensions.{is_known}
@@ -10,6 +10,7 @@ use Rattle.sz_x509.specs.Parts.{after, after_optional, content_at, first_of, fro
 use Rattle.sz_x509.specs.declared.fault.CertKind.{CertKind}
 use Rattle.sz_x509.specs.declared.fault.CertKind.TheVariants as kind
 use Rattle.sz_x509.specs.declared.identifier.TheConstants.{BASIC_CONSTRAINTS, HSS_LMS, KEY_USAGE, SUBJECT_KEY_IDENTIFIER}
+use Rattle.sz_x509.specs.declared.tag.TheConstants.{EXTENSIONS, ISSUER_UNIQUE_ID, SUBJECT_UNIQUE_ID}
 
 -- a fault: its kind and its place, counted from 0
 abbrev pub Fault : Type 0
@@ -45,6 +46,10 @@ integer_fault spot = first_of (part kind.Der INTEGER spot ∷ typed is_integer s
 unfoldable pub octets_fault : CertKind → Spot → Option Fault
 octets_fault other spot = first_of (part other BIT_STRING spot ∷ typed is_whole_octets spot ∷ [])
 
+-- these octets
+unfoldable pub octets_at : Spot → List ℕ
+octets_at spot = drop 1 (content_at spot)
+
 unfoldable pub time_fault : Spot → Option Fault
 time_fault spot = first_of (no_item kind.Der spot ∷ rule (is_time (tag_at spot) (content_at spot)) kind.Time spot ∷ [])
 
@@ -76,15 +81,15 @@ validity_fault spot = first_of (
     ∷ end kind.Der (after (after (inside spot)))
     ∷ [])
 
--- the key in the content of its BIT STRING, raw or wrapped in an OCTET STRING, after the count of unused bits
+-- the key in the octets of its BIT STRING, raw or wrapped in an OCTET STRING
 abbrev pub is_wrapped : List ℕ → Bool
-is_wrapped content = bytes_eq (take 3 content) (0 ∷ 4 ∷ key_length ∷ []) && length content == 3 + key_length
+is_wrapped octets = bytes_eq (take 2 octets) (4 ∷ key_length ∷ []) && length octets == 2 + key_length
 
 abbrev pub holds_key : List ℕ → Bool
-holds_key content = length content == 1 + key_length || is_wrapped content
+holds_key octets = length octets == key_length || is_wrapped octets
 
 abbrev pub key_in : List ℕ → List ℕ
-key_in content = if length content == 1 + key_length then drop 1 content else drop 3 content
+key_in octets = if length octets == key_length then octets else drop 2 octets
 
 -- the BIT STRING of the key
 abbrev pub bits_of_key : Spot → Spot
@@ -95,13 +100,13 @@ key_fault spot = first_of (
     part kind.Key SEQUENCE spot
     ∷ algorithm_fault (inside spot)
     ∷ octets_fault kind.Key (bits_of_key spot)
-    ∷ rule (holds_key (content_at (bits_of_key spot))) kind.Key (bits_of_key spot)
+    ∷ rule (holds_key (octets_at (bits_of_key spot))) kind.Key (bits_of_key spot)
     ∷ end kind.Key (after (bits_of_key spot))
     ∷ [])
 
--- `[n]` of a primitive type that need not be there
-abbrev pub unique_id_fault : ℕ → Spot → Option Fault
-unique_id_fault n spot = if_next (CONTEXT_PRIMITIVE + n) spot (no_item kind.Der spot ∷ [])
+-- an item with this tag, which need not be there
+unfoldable pub unique_id_fault : ℕ → Spot → Option Fault
+unique_id_fault tag spot = if_next tag spot (no_item kind.Der spot ∷ [])
 
 -- ---- the values of extensions, in the content of their OCTET STRING
 
@@ -176,11 +181,8 @@ each_fault earlier [] = None
 each_fault earlier (spot ∷ later) = first_of (extension_fault earlier spot ∷ each_fault (earlier ++ spot ∷ []) later ∷ [])
 
 -- `[3]` and its SEQUENCE of extensions
-abbrev pub extensions_tag : ℕ
-extensions_tag = CONTEXT_CONSTRUCTED + 3
-
 unfoldable pub extensions_fault : Spot → Option Fault
-extensions_fault spot = if_next extensions_tag spot (
+extensions_fault spot = if_next EXTENSIONS spot (
     no_item kind.Der spot
     ∷ part kind.Der SEQUENCE (inside spot)
     ∷ each_fault [] (spots_from (inside (inside spot)))
@@ -209,10 +211,10 @@ abbrev pub issuer_id_spot : Spot → Spot
 issuer_id_spot first = after (key_spot first)
 
 abbrev pub subject_id_spot : Spot → Spot
-subject_id_spot first = after_optional (CONTEXT_PRIMITIVE + 1) (issuer_id_spot first)
+subject_id_spot first = after_optional ISSUER_UNIQUE_ID (issuer_id_spot first)
 
 abbrev pub extensions_spot : Spot → Spot
-extensions_spot first = after_optional (CONTEXT_PRIMITIVE + 2) (subject_id_spot first)
+extensions_spot first = after_optional SUBJECT_UNIQUE_ID (subject_id_spot first)
 
 -- the parts of TBSCertificate
 unfoldable pub tbs_parts_fault : Spot → Option Fault
@@ -224,10 +226,10 @@ tbs_parts_fault first = first_of (
     ∷ validity_fault (validity_spot first)
     ∷ part kind.Der SEQUENCE (subject_spot first)
     ∷ key_fault (key_spot first)
-    ∷ unique_id_fault 1 (issuer_id_spot first)
-    ∷ unique_id_fault 2 (subject_id_spot first)
+    ∷ unique_id_fault ISSUER_UNIQUE_ID (issuer_id_spot first)
+    ∷ unique_id_fault SUBJECT_UNIQUE_ID (subject_id_spot first)
     ∷ extensions_fault (extensions_spot first)
-    ∷ end kind.Der (after_optional extensions_tag (extensions_spot first))
+    ∷ end kind.Der (after_optional EXTENSIONS (extensions_spot first))
     ∷ [])
 
 -- Certificate, with nothing behind it

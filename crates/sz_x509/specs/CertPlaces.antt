@@ -1,19 +1,21 @@
 -- The fields of a certificate that has no fault, at their places.
-use Rattle.std.specs.Prelude.{◌≡◌, ◌<◌, ◌^◌, ℕ, ℤ, Bool, false, if◌then◌else◌, List, [], drop, Option, Some, None, option_map, bytes_eq}
-use Rattle.std.specs.List.{find}
+use Rattle.std.specs.Prelude.{◌≡◌, ◌<◌, ◌^◌, ℕ, ℤ, Bool, true, false, if◌then◌else◌, List, [], Option, Some, None, option_map, bytes_eq, ◌∷◌, MatchBool}
+use Rattle.std.specs.List.{AllByRecursion, find}
 use Rattle.sz_der.specs.Content.{HoldsBits}
 use Rattle.sz_der.specs.Der.{number_of}
-use Rattle.sz_der.specs.declared.tag.TheConstants.{INTEGER}
-use Rattle.sz_x509.specs.CertFault.{bits_of_key, extensions_spot, extensions_tag, flag_at, identifier_at, issuer_spot, key_in, key_spot, path_length_spot, serial_spot, subject_spot, validity_spot, value_spot}
+use Rattle.sz_der.specs.declared.tag.TheConstants.{INTEGER, OBJECT_IDENTIFIER, SEQUENCE}
+use Rattle.sz_x509.specs.CertFault.{bits_of_key, extensions_spot, flag_at, identifier_at, issuer_spot, key_in, key_spot, octets_at, part, path_length_spot, serial_spot, subject_spot, validity_spot, value_spot}
 use Rattle.sz_x509.specs.Certificate.{Certificate}
 use Rattle.sz_x509.specs.Contents.{seconds_in}
 use Rattle.sz_x509.specs.Extensions.{Restrictions}
-use Rattle.sz_x509.specs.Parts.{after, content_at, front, inside, is_next, Spot, spots_from, tag_at, whole_at}
+use Rattle.sz_x509.specs.Parts.{after, content_at, front, inside, is_at_end, is_next, Spot, spots_from, tag_at, whole_at}
+use Rattle.sz_x509.specs.declared.fault.CertKind.TheVariants.{Der}
 use Rattle.sz_x509.specs.declared.identifier.TheConstants.{BASIC_CONSTRAINTS, KEY_USAGE, SUBJECT_KEY_IDENTIFIER}
+use Rattle.sz_x509.specs.declared.tag.TheConstants.{EXTENSIONS}
 
 -- the spots of the extensions, where there are any
 unfoldable pub extension_spots : Spot → List Spot
-extension_spots field = if is_next extensions_tag field then spots_from (inside (inside field)) else []
+extension_spots field = if is_next EXTENSIONS field then spots_from (inside (inside field)) else []
 
 -- the extension at this spot has the identifier
 abbrev pub has_identifier : List ℕ → Spot → Bool
@@ -49,16 +51,36 @@ pub record RestrictedAt (spots : List Spot) (restrictions : Restrictions) : Type
   pub usage : UsageAt (value_among KEY_USAGE spots) restrictions.usage
   pub key_id : restrictions.key_id ≡ key_id_at (value_among SUBJECT_KEY_IDENTIFIER spots)
 
+-- the earlier spots are those of the items from one spot up to another, each after the one before it
+abbrev pub AreBetween : Spot → List Spot → Spot → Type 0
+AreBetween first [] here = first ≡ here
+AreBetween first (spot ∷ spots) here =
+    (spot ≡ first) × (is_at_end first ≡ false) × AreBetween (after first) spots here
+
+-- an extension begins there, with its identifier
+pub record BeginsExtension (spot : Spot) : Type 0 where
+  pub sequence : part Der SEQUENCE spot ≡ None
+  pub identifier : part Der OBJECT_IDENTIFIER (inside spot) ≡ None
+
+-- extensions begin at the earlier spots, which lead from the first one here
+pub record LeadHere (first : Spot) (earlier : List Spot) (here : Spot) : Type 0 where
+  pub between : AreBetween first earlier here
+  pub begin : AllByRecursion BeginsExtension earlier
+
+-- what the value of an extension with this identifier adds to the restrictions so far
+pub record Adds (identifier : List ℕ) (value : Spot) (old new : Restrictions) : Type 0 where
+  pub ca : new.ca ≡ (if bytes_eq identifier BASIC_CONSTRAINTS then flag_at (inside value) else old.ca)
+  pub path_len : new.path_len
+      ≡ (if bytes_eq identifier BASIC_CONSTRAINTS then path_length_at (path_length_spot value) else old.path_len)
+  pub usage : MatchBool (bytes_eq identifier KEY_USAGE) (UsageAt (Some value) new.usage) (new.usage ≡ old.usage)
+  pub key_id : new.key_id ≡ (if bytes_eq identifier SUBJECT_KEY_IDENTIFIER then Some (content_at value) else old.key_id)
+
 -- the time that the item at the spot names
 unfoldable pub seconds_at : Spot → ℤ
 seconds_at spot = seconds_in (tag_at spot) (content_at spot)
 
 unfoldable pub key_at : Spot → List ℕ
-key_at spot = key_in (content_at (bits_of_key spot))
-
--- the octets of a BIT STRING
-unfoldable pub octets_at : Spot → List ℕ
-octets_at spot = drop 1 (content_at spot)
+key_at spot = key_in (octets_at (bits_of_key spot))
 
 -- the fields of TBSCertificate, from the spot of its first part on
 pub record TbsAt (first : Spot) (fields : Certificate) : Type 0 where

@@ -1,12 +1,13 @@
 -- A certificate as a relation on whole strings: its parts, in the standard's order, by DER (RFC 5280 section 4.1).
-use Rattle.std.specs.Prelude.{◌≡◌, ◌⊎◌, ℕ, ℤ, ◌+◌, List, [], ◌∷◌, ◌++◌, length}
+use Rattle.std.specs.Prelude.{◌≡◌, ◌⊎◌, ℕ, ℤ, List, [], ◌∷◌, ◌++◌, length}
 use Rattle.sz_calendar.specs.CivilTime.{CivilTime, IsTimeAt}
 use Rattle.sz_der.specs.Der.{Der}
 use Rattle.sz_der.specs.Integer.{IsInteger}
 use Rattle.sz_der.specs.Time.{NamesTime}
-use Rattle.sz_der.specs.declared.tag.TheConstants.{BIT_STRING, CONTEXT_CONSTRUCTED, CONTEXT_PRIMITIVE, INTEGER, OBJECT_IDENTIFIER, SEQUENCE}
+use Rattle.sz_der.specs.declared.tag.TheConstants.{BIT_STRING, CONTEXT_CONSTRUCTED, INTEGER, OBJECT_IDENTIFIER, SEQUENCE}
 use Rattle.sz_x509.specs.Extensions.{HasExtensions, Restrictions}
 use Rattle.sz_x509.specs.declared.identifier.TheConstants.{HSS_LMS}
+use Rattle.sz_x509.specs.declared.tag.TheConstants.{ISSUER_UNIQUE_ID, SUBJECT_UNIQUE_ID}
 
 -- What is kept of a certificate. The issuer and the subject are whole items; the serial number is the octets of its
 -- INTEGER; times are seconds since 1970.
@@ -87,10 +88,9 @@ pub record IsKey (key bytes : List ℕ) : Type 0 where
   pub is_bits : Der BIT_STRING (0 ∷ octets) bits
   pub is_sequence : Der SEQUENCE (algorithm ++ bits) bytes
 
--- `[n]` of a primitive type, which is not looked into and need not be there: issuerUniqueID is `[1]` and
--- subjectUniqueID `[2]` (4.1.2.8)
+-- issuerUniqueID and subjectUniqueID (4.1.2.8), which are not looked into and need not be there
 abbrev pub IsUniqueId : ℕ → List ℕ → Type 0
-IsUniqueId n bytes = (bytes ≡ []) ⊎ ((bits : List ℕ) × Der (CONTEXT_PRIMITIVE + n) bits bytes)
+IsUniqueId tag bytes = (bytes ≡ []) ⊎ ((bits : List ℕ) × Der tag bits bytes)
 
 -- The parts of TBSCertificate (4.1), one after another.
 pub record TbsParts : Type 0 where
@@ -119,8 +119,8 @@ pub record IsTbs (fields : Certificate) (bytes : List ℕ) : Type 0 where
   pub is_validity : IsValidity fields.not_before fields.not_after parts.validity
   pub is_subject : IsName fields.subject
   pub is_key : IsKey fields.key parts.key
-  pub is_issuer_id : IsUniqueId 1 parts.issuer_id
-  pub is_subject_id : IsUniqueId 2 parts.subject_id
+  pub is_issuer_id : IsUniqueId ISSUER_UNIQUE_ID parts.issuer_id
+  pub is_subject_id : IsUniqueId SUBJECT_UNIQUE_ID parts.subject_id
   pub are_extensions : HasExtensions fields.restrictions parts.extensions
   pub is_sequence : Der SEQUENCE (joined parts fields) bytes
 

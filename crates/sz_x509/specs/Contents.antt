@@ -1,5 +1,5 @@
 -- Whether a content is one of its type, as tests of its octets, and the values that it then has.
-use Rattle.std.specs.Prelude.{ℕ, ℤ, ◌+◌, ◌-◌, ◌*◌, ◌%◌, ◌^◌, ◌&&◌, ◌||◌, ◌==◌, not, nat_lt, nat_le, int_le, pos, if◌then◌else◌, Bool, false, List, [], ◌∷◌, length, slice_index, take, drop, bytes_eq, suc}
+use Rattle.std.specs.Prelude.{ℕ, ℤ, ◌+◌, ◌-◌, ◌*◌, ◌%◌, ◌^◌, ◌&&◌, ◌||◌, ◌==◌, not, nat_lt, nat_le, pos, unsigned_abs, if◌then◌else◌, Bool, false, List, [], ◌∷◌, length, slice_index, take, drop, bytes_eq, suc}
 use Rattle.sz_calendar.specs.CivilTime.{CivilTime, unix_seconds}
 use Rattle.sz_calendar.specs.Gregorian.{month_lengths}
 use Rattle.sz_der.specs.Der.{number_of}
@@ -37,7 +37,7 @@ abbrev pub is_bits : List ℕ → Bool
 is_bits [] = false
 is_bits (unused ∷ []) = unused == 0
 is_bits (unused ∷ octet ∷ octets) =
-    nat_le unused 7 && slice_index (octet ∷ octets) (length octets) % 2 ^ unused == 0
+    nat_le unused 7 && slice_index (octet ∷ octets) (length (octet ∷ octets) - 1) % 2 ^ unused == 0
 
 -- ---- the two time types (X.690 sections 11.7 and 11.8)
 
@@ -68,10 +68,10 @@ utc_time_in text = time_in_year (year_of_two (digits_at text 0)) text 2
 abbrev pub generalized_time_in : List ℕ → CivilTime
 generalized_time_in text = time_in_year (digits_at text 0 * 100 + digits_at text 2) text 4
 
--- the calendar has the date
+-- the calendar has the date, which is of a year from -9999 to 9999
 abbrev pub is_date : ℤ → ℕ → ℕ → Bool
 is_date year month day =
-    int_le year (pos 9999) && (nat_le 1 month && (nat_le month 12 && (nat_le 1 day
+    nat_le (unsigned_abs year) 9999 && (nat_le 1 month && (nat_le month 12 && (nat_le 1 day
     && nat_le day (slice_index (month_lengths year) (month - 1)))))
 
 -- the calendar has the date, and the clock the time

@@ -1,11 +1,12 @@
 -- The extensions of a certificate as a relation on whole strings (RFC 5280 sections 4.1 and 4.2).
-use Rattle.std.specs.Prelude.{◌≡◌, ◌≢◌, ◌⊎◌, ◌<◌, ◌^◌, ℕ, ◌+◌, pos, ⊤, Bool, true, false, List, [], ◌∷◌, ◌++◌, Option, Some, None, option_map, bytes_eq}
+use Rattle.std.specs.Prelude.{◌≡◌, ◌≢◌, ◌⊎◌, ◌<◌, ◌^◌, ℕ, pos, ⊤, Bool, true, false, List, [], ◌∷◌, ◌++◌, Option, Some, None, option_map, bytes_eq}
 use Rattle.std.specs.List.{AllByRecursion, find, list_any}
 use Rattle.sz_der.specs.Content.{IsBoolean, HoldsBits}
 use Rattle.sz_der.specs.Der.{Der}
 use Rattle.sz_der.specs.Integer.{IsIntegerOf}
-use Rattle.sz_der.specs.declared.tag.TheConstants.{BIT_STRING, BOOLEAN, CONTEXT_CONSTRUCTED, INTEGER, OBJECT_IDENTIFIER, OCTET_STRING, SEQUENCE}
+use Rattle.sz_der.specs.declared.tag.TheConstants.{BIT_STRING, BOOLEAN, INTEGER, OBJECT_IDENTIFIER, OCTET_STRING, SEQUENCE}
 use Rattle.sz_x509.specs.declared.identifier.TheConstants.{AUTHORITY_KEY_IDENTIFIER, BASIC_CONSTRAINTS, CERTIFICATE_POLICIES, EXTENDED_KEY_USAGE, KEY_USAGE, SUBJECT_ALT_NAME, SUBJECT_KEY_IDENTIFIER}
+use Rattle.sz_x509.specs.declared.tag.TheConstants.{EXTENSIONS}
 
 -- an extension: the octets of its identifier, whether it is critical, and the octets of its value
 pub record Extension : Type 0 where
@@ -39,7 +40,7 @@ abbrev pub AreInField : List Extension → List ℕ → Type 0
 AreInField extensions bytes =
     ((bytes ≡ []) × (extensions ≡ []))
     ⊎ ((content : List ℕ) × (sequence : List ℕ) × AreExtensions extensions content
-    × Der SEQUENCE content sequence × Der (CONTEXT_CONSTRUCTED + 3) sequence bytes)
+    × Der SEQUENCE content sequence × Der EXTENSIONS sequence bytes)
 
 -- ---- what extensions say together
 

@@ -1,7 +1,8 @@
 -- Parts of a format at their places, and rules that they break: words for a table of faults.
-use Rattle.std.specs.Prelude.{ℕ, ◌+◌, ◌&&◌, ◌==◌, not, nat_lt, if◌then◌else◌, Bool, List, [], ◌∷◌, length, take, drop, slice_index, Option, Some, None, is_some, zero, suc}
+use Rattle.std.specs.Prelude.{◌≡◌, ℕ, ◌+◌, ◌-◌, ◌&&◌, ◌==◌, not, nat_lt, if◌then◌else◌, Bool, List, [], ◌∷◌, length, take, drop, slice_index, Option, Some, None, is_some, zero, suc}
 use Rattle.sz_der.specs.Fault.{fault_of, header_size, content_size}
 use Rattle.sz_der.specs.Reader.{place_of}
+use Rattle.sz_der.specs.declared.item.Item.{Item}
 use Rattle.sz_der.specs.declared.reader.DerReader.{DerReader}
 
 -- The bytes that are left of what holds an item, from the item's tag on, and the place of the input where they end.
@@ -13,7 +14,7 @@ pub record Spot : Type 0 where
 unfoldable pub front : List ℕ → Spot
 front bytes = record { left = bytes; end = length bytes }
 
--- where a reader stands
+-- where a reader of items stands
 unfoldable pub spot_of : DerReader → Spot
 spot_of reader = record { left = reader.left.now; end = reader.end }
 
@@ -46,6 +47,14 @@ inside spot = record { left = content_at spot; end = place_at (after spot) }
 
 unfoldable pub is_at_end : Spot → Bool
 is_at_end spot = length spot.left == 0
+
+-- the item, as a reader of items gives it
+pub record IsItemAt (spot : Spot) (item : Item) : Type 0 where
+  pub tag : item.tag ≡ tag_at spot
+  pub content : item.content.now ≡ content_at spot
+  pub whole : item.whole.now ≡ whole_at spot
+  pub ends : item.after ≡ place_at (after spot)
+  pub begins : item.after - length item.whole.now ≡ place_at spot
 
 -- an item with this tag is next, for one that need not be there
 unfoldable pub is_next : ℕ → Spot → Bool

@@ -1,11 +1,13 @@
 -- What contracts see of the types of this crate.
-use Rattle.std.specs.Prelude.{ℕ}
+use Rattle.std.specs.Prelude.{ℕ, []}
 use Rattle.std.specs.Option.{option_copied}
 use Rattle.sz_x509.specs.Certificate.{Certificate}
 use Rattle.sz_x509.specs.Extensions.{Restrictions}
 use Rattle.sz_x509.specs.declared.cert.Cert.{Cert}
+use Rattle.sz_x509.specs.declared.extensions.Restrictions as found
 use Rattle.sz_x509.specs.declared.fault.CertFault.{CertFault}
 use Rattle.sz_x509.specs.declared.fault.CertKind.{CertKind}
+use Rattle.sz_x509.specs.declared.tbs.Tbs.{Tbs}
 
 -- what its extensions restrict a certificate to
 abbrev pub restrictions_of : Cert → Restrictions
@@ -14,6 +16,30 @@ restrictions_of cert = record {
   path_len = cert.path_len;
   usage = cert.usage;
   key_id = option_copied cert.key_id;
+}
+
+-- what extensions restrict a certificate to, as they are read
+abbrev pub extensions_of : found.Restrictions → Restrictions
+extensions_of read = record {
+  ca = read.ca;
+  path_len = read.path_len;
+  usage = read.usage;
+  key_id = option_copied read.key_id;
+}
+
+-- the fields of TBSCertificate, as they are read, without those of the whole certificate
+unfoldable pub fields_of : Tbs → Certificate
+fields_of tbs = record {
+  whole = [];
+  tbs = [];
+  serial = tbs.serial.now;
+  issuer = tbs.issuer.now;
+  not_before = tbs.not_before.0;
+  not_after = tbs.not_after.0;
+  subject = tbs.subject.now;
+  key = tbs.key.now;
+  restrictions = extensions_of tbs.restrictions;
+  signature = [];
 }
 
 -- what is kept of a certificate

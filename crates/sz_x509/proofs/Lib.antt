@@ -1,0 +1,9 @@
+pub mod Spots
+pub mod Values
+pub mod Times
+pub mod Spelled
+pub mod Chains
+pub mod ExtensionLists
+pub mod Restricted
+pub mod Whole
+pub mod OneCertificate
