@@ -109,11 +109,11 @@ without_unique_id tag other piece rest (inr item) differ without = without_item 
 
 -- ---- BOOLEAN DEFAULT FALSE
 
-flag_at-other : (spot : Spot) → is_next BOOLEAN spot ≡ false → flag_at spot ≡ false
+pub flag_at-other : (spot : Spot) → is_next BOOLEAN spot ≡ false → flag_at spot ≡ false
 unfolding flag_at
 flag_at-other spot other = and_left _ _ other
 
-flag_at-next : (spot : Spot) → is_next BOOLEAN spot ≡ true → flag_at spot ≡ is_true_content (content_at spot)
+pub flag_at-next : (spot : Spot) → is_next BOOLEAN spot ≡ true → flag_at spot ≡ is_true_content (content_at spot)
 unfolding flag_at
 flag_at-next spot next = rw next refl
 
@@ -148,11 +148,11 @@ flag_clear spot flag piece rest (inr item) without joined =
 
 -- ---- BasicConstraints
 
-path_length-next : (spot : Spot) → is_next INTEGER spot ≡ true → path_length_at spot ≡ Some (number_of (content_at spot))
+pub path_length-next : (spot : Spot) → is_next INTEGER spot ≡ true → path_length_at spot ≡ Some (number_of (content_at spot))
 unfolding path_length_at
 path_length-next spot next = rw next refl
 
-path_length-other : (spot : Spot) → is_next INTEGER spot ≡ false → path_length_at spot ≡ None
+pub path_length-other : (spot : Spot) → is_next INTEGER spot ≡ false → path_length_at spot ≡ None
 unfolding path_length_at
 path_length-other spot other = rw other refl
 
@@ -245,7 +245,7 @@ basic_constraints_clear spot ca path_len value is left =
 
 -- ---- KeyUsage and SubjectKeyIdentifier
 
-bits_of : (content : List ℕ) → is_bits content ≡ true → (unused : ℕ) × (octets : List ℕ) × (content ≡ unused ∷ octets) × IsBits unused octets
+pub bits_of : (content : List ℕ) → is_bits content ≡ true → (unused : ℕ) × (octets : List ℕ) × (content ≡ unused ∷ octets) × IsBits unused octets
 bits_of [] e = absurd cc
 bits_of (unused ∷ octets) e = (unused, octets, refl, IsBits_from_test unused octets e)
 
@@ -273,7 +273,7 @@ IsKeyUsage_from_none spot usage fits n below holds =
       is_item = subst (λ (x : List ℕ). Der BIT_STRING (content_at spot) x) (sym whole) here.is_item;
     }
 
-bits_content_test : (content : List ℕ) (usage : ℕ) → HoldsBits content usage → is_bits content ≡ true
+pub bits_content_test : (content : List ℕ) (usage : ℕ) → HoldsBits content usage → is_bits content ≡ true
 bits_content_test content usage holds = rw holds.2 (bits_test holds.0 holds.1 holds.3)
 
 pub key_usage_clear : (spot : Spot) (usage : ℕ) (value : List ℕ) → IsKeyUsage usage value → spot.left ≡ value →
