@@ -6,5 +6,6 @@ pub mod Spelled
 pub mod Chains
 pub mod ExtensionLists
 pub mod Restricted
+pub mod Adding
 pub mod Whole
 pub mod OneCertificate

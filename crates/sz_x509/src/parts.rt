@@ -1,6 +1,7 @@
 //! Steps of a reader of parts: each takes what has to stand next, or answers the fault of that.
 
 ghost use Rattle.std.specs.Prelude.{◌≡◌, None, Some, IfOk, IfErr, OnOk};
+ghost use Rattle.sz_der.specs.Der.{AreOctets};
 ghost use Rattle.sz_x509.specs.CertFault.{algorithm_fault, end, flag_at, flag_fault, integer_fault, octets_at, octets_fault, part, time_fault};
 ghost use Rattle.sz_x509.specs.CertPlaces.{seconds_at};
 ghost use Rattle.sz_x509.specs.Parts.{after, after_optional, content_at, inside, IsItemAt, is_next, no_item, place_at, Spot, spot_of};
@@ -79,6 +80,13 @@ pub(crate) fn is_next(reader: &DerReader<'_>, tag: u8) -> bool
         Some(first) => *first == tag,
         None => false,
     }
+}
+
+/// Bytes are octets, which proofs take from here.
+pub(crate) fn octets_fit(bytes: &[u8])
+    ensures { AreOctets bytes.now }
+{
+    let _bytes = bytes;
 }
 
 /// A reader of what the item holds.
