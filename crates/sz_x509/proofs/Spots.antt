@@ -61,7 +61,7 @@ fault-none : (fault : Option DerKind) → not (is_some fault) ≡ true → fault
 fault-none None e = refl
 fault-none (Some kind) e = absurd cc
 
-no_fault_there : {K : Type 0} (kind : K) (spot : Spot) → no_item kind spot ≡ None → fault_of spot.left ≡ None
+pub no_fault_there : {K : Type 0} (kind : K) (spot : Spot) → no_item kind spot ≡ None → fault_of spot.left ≡ None
 unfolding no_item
 no_fault_there kind spot e = fault-none (fault_of spot.left) (holds_from_rule (not (is_some (fault_of spot.left))) kind spot e)
 
