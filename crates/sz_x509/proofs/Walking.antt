@@ -177,3 +177,7 @@ longer a b h = h
 pub not_longer : (a b : DerReader) → length a.left.now ≤ length b.left.now → length (spot_of a).left ≤ length (spot_of b).left
 unfolding spot_of
 not_longer a b h = h
+
+pub none_left : (reader : DerReader) → reader.left.now ≡ [] → spots_from (spot_of reader) ≡ []
+unfolding spot_of
+none_left reader nothing = spots_end (spot_of reader) nothing

@@ -19,11 +19,11 @@ use Rattle.sz_x509.proofs.Restricted.{each_value_is_clear, places_from_restrict,
 
 -- ---- the field of extensions
 
-spots_next : (field : Spot) → is_next EXTENSIONS field ≡ true → extension_spots field ≡ spots_from (inside (inside field))
+pub spots_next : (field : Spot) → is_next EXTENSIONS field ≡ true → extension_spots field ≡ spots_from (inside (inside field))
 unfolding extension_spots
 spots_next field next = rw next refl
 
-spots_other : (field : Spot) → is_next EXTENSIONS field ≡ false → extension_spots field ≡ []
+pub spots_other : (field : Spot) → is_next EXTENSIONS field ≡ false → extension_spots field ≡ []
 unfolding extension_spots
 spots_other field other = rw other refl
 
