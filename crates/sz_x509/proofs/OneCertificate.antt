@@ -136,15 +136,15 @@ value_of_none : (earlier : List Spot) (spot : Spot) → extension_fault earlier 
 unfolding extension_fault
 value_of_none earlier spot n =
     let rules = all_none (
-      part kinds.Der SEQUENCE spot
-      ∷ part kinds.Der OBJECT_IDENTIFIER (inside spot)
-      ∷ rule (not (stands_among earlier (identifier_at spot))) kinds.Extension spot
-      ∷ flag_fault (flag_spot spot)
-      ∷ rule (not (flag_at (flag_spot spot)) || is_known (identifier_at spot)) kinds.Extension spot
-      ∷ part kinds.Der OCTET_STRING (value_spot spot)
-      ∷ end kinds.Der (after (value_spot spot))
-      ∷ value_fault (identifier_at spot) (inside (value_spot spot))
-      ∷ []) n in
+    part kinds.Der SEQUENCE spot
+    ∷ part kinds.Der OBJECT_IDENTIFIER (inside spot)
+    ∷ rule (not (stands_among earlier (identifier_at spot))) kinds.Extension spot
+    ∷ flag_fault (flag_spot spot)
+    ∷ rule (not (flag_at (flag_spot spot)) || is_known (identifier_at spot)) kinds.Extension spot
+    ∷ part kinds.Der OCTET_STRING (value_spot spot)
+    ∷ end kinds.Der (after (value_spot spot))
+    ∷ value_fault (identifier_at spot) (inside (value_spot spot))
+    ∷ []) n in
     rules.1.1.1.1.1.1.1.0
 
 values_hold : (earlier later : List Spot) → each_fault earlier later ≡ None → AllByRecursion ValueHolds later
@@ -183,18 +183,18 @@ extensions_part : (first : Spot) → tbs_parts_fault first ≡ None → extensio
 unfolding tbs_parts_fault
 extensions_part first n =
     let rules = all_none (
-      version_fault first
-      ∷ integer_fault (serial_spot first)
-      ∷ algorithm_fault (after (serial_spot first))
-      ∷ part kinds.Der SEQUENCE (issuer_spot first)
-      ∷ validity_fault (validity_spot first)
-      ∷ part kinds.Der SEQUENCE (subject_spot first)
-      ∷ key_fault (key_spot first)
-      ∷ unique_id_fault ISSUER_UNIQUE_ID (issuer_id_spot first)
-      ∷ unique_id_fault SUBJECT_UNIQUE_ID (subject_id_spot first)
-      ∷ extensions_fault (extensions_spot first)
-      ∷ end kinds.Der (after_optional EXTENSIONS (extensions_spot first))
-      ∷ []) n in
+    version_fault first
+    ∷ integer_fault (serial_spot first)
+    ∷ algorithm_fault (after (serial_spot first))
+    ∷ part kinds.Der SEQUENCE (issuer_spot first)
+    ∷ validity_fault (validity_spot first)
+    ∷ part kinds.Der SEQUENCE (subject_spot first)
+    ∷ key_fault (key_spot first)
+    ∷ unique_id_fault ISSUER_UNIQUE_ID (issuer_id_spot first)
+    ∷ unique_id_fault SUBJECT_UNIQUE_ID (subject_id_spot first)
+    ∷ extensions_fault (extensions_spot first)
+    ∷ end kinds.Der (after_optional EXTENSIONS (extensions_spot first))
+    ∷ []) n in
     rules.1.1.1.1.1.1.1.1.1.0
 
 tbs_part : (bytes : List ℕ) → cert_fault bytes ≡ None → tbs_parts_fault (inside (inside (front bytes))) ≡ None

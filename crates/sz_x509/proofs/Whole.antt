@@ -246,7 +246,7 @@ CertOf_from_none bytes fields fits n at =
       is_algorithm = algorithm.0;
       is_signature = rw at.signature signature.0;
       is_sequence = subst (λ (x : List ℕ). Der SEQUENCE (fields.tbs
-      ++ (whole_at (after (inside (front bytes))) ++ whole_at (after (after (inside (front bytes)))))) x) (sym whole) (rw at.tbs item);
+          ++ (whole_at (after (inside (front bytes))) ++ whole_at (after (after (inside (front bytes)))))) x) (sym whole) (rw at.tbs item);
     }
 
 pub cert_clear : (bytes : List ℕ) (fields : Certificate) → CertOf bytes fields → (cert_fault bytes ≡ None) × FieldsAt bytes fields

@@ -30,7 +30,11 @@ pub(crate) fn take_item<'a>(reader: &mut DerReader<'a>) -> Result<Item<'a>, Cert
 }
 
 /// Takes the next item, which has to have this tag; of another one the fault is of the kind `other`.
-pub(crate) fn take_part<'a>(reader: &mut DerReader<'a>, tag: u8, other: CertKind) -> Result<Item<'a>, CertFault>
+pub(crate) fn take_part<'a>(
+    reader: &mut DerReader<'a>,
+    tag: u8,
+    other: CertKind,
+) -> Result<Item<'a>, CertFault>
     ensures ok { OnOk result (part other tag (spot_of reader.old) ≡ None) }
     ensures item { IfOk result (IsItemAt (spot_of reader.old)) }
     ensures next { OnOk result (spot_of reader.new ≡ after (spot_of reader.old)) }
@@ -121,7 +125,10 @@ pub(crate) fn take_integer<'a>(reader: &mut DerReader<'a>) -> Result<&'a [u8], C
 }
 
 /// Takes a BIT STRING of whole octets, and answers these; of another tag the fault is of the kind `other`.
-pub(crate) fn take_octets<'a>(reader: &mut DerReader<'a>, other: CertKind) -> Result<(Item<'a>, &'a [u8]), CertFault>
+pub(crate) fn take_octets<'a>(
+    reader: &mut DerReader<'a>,
+    other: CertKind,
+) -> Result<(Item<'a>, &'a [u8]), CertFault>
     ensures ok { OnOk result (octets_fault other (spot_of reader.old) ≡ None) }
     ensures item { IfOk result (λ taken. IsItemAt (spot_of reader.old) taken.0) }
     ensures octets { IfOk result (λ taken. taken.1.now ≡ octets_at (spot_of reader.old)) }

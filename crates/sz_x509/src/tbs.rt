@@ -8,8 +8,8 @@ ghost use Rattle.sz_x509.specs.View.{at, fields_of};
 
 use crate::extensions::{Restrictions, take_extensions};
 use crate::parts::{
-    expect_end, fault_of, is_next, open_part, take_algorithm, take_integer, take_item, take_octets, take_part,
-    take_time,
+    expect_end, fault_of, is_next, open_part, take_algorithm, take_integer, take_item, take_octets,
+    take_part, take_time,
 };
 use crate::tag::{ISSUER_UNIQUE_ID, SUBJECT_UNIQUE_ID};
 use crate::{CertFault, CertKind};
