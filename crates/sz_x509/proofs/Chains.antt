@@ -1,0 +1,312 @@
+-- Parts that need not be there, and extensions one after another: what has no fault is spelled as its relation says,
+-- and what is spelled so has none.
+use Rattle.std.proofs.Common.{◌≡◌, ◌≢◌, ℕ, zero, suc, inl, inr, ◌⊎◌, ◌+◌, ◌<◌, ◌≤◌, ◌^◌, Bool, true, false, not, cond, ◌&&◌, ◌||◌, List, [], ◌∷◌, ◌++◌, length, drop, Option, Some, None, refl, sym, ap, subst, ◌∙◌, arith, pos, append_assoc, length-append}
+use Rattle.std.specs.Prelude.{bytes_eq, option_map}
+use Rattle.std.specs.List.{AllByRecursion, find, list_any}
+use Rattle.std.proofs.lemmas.Bool.{and_left, and_right, and_parts, and_from, both_ways, cases_Bool, eqb-true, eq-eqb, ne_eqb, false_from_ne_true, not-true, not_from_false, not_from_true, or_cases, or_left, or_right, or_parts, or_from, true≢false}
+use Rattle.std.proofs.lemmas.List.{append-nil}
+use Rattle.std.proofs.lemmas.List.Folds.{list_any-append, find-append}
+use Rattle.sz_der.specs.Content.{HoldsBits, IsBits}
+use Rattle.sz_der.specs.Der.{AreOctets, Der, number_of}
+use Rattle.sz_der.specs.declared.tag.TheConstants.{BIT_STRING, BOOLEAN, INTEGER, OBJECT_IDENTIFIER, OCTET_STRING, SEQUENCE}
+use Rattle.sz_x509.specs.Certificate.{IsUniqueId}
+use Rattle.sz_x509.specs.CertFault.{basic_constraints_fault, each_fault, end, extension_fault, extensions_fault, flag_at, flag_fault, flag_spot, identifier_at, key_identifier_fault, key_usage_fault, part, path_length_fault, path_length_spot, stands_among, unique_id_fault, value_fault, value_spot}
+use Rattle.sz_x509.specs.CertPlaces.{path_length_at, UsageAt}
+use Rattle.sz_x509.specs.Contents.{is_bits, is_boolean, is_integer, is_true_content, is_u32}
+use Rattle.sz_x509.specs.Extensions.{AreExtensions, Extension, IsBasicConstraints, IsExtension, IsFlag, IsKeyUsage, IsPathLength}
+use Rattle.sz_x509.specs.Parts.{after, after_optional, content_at, first_of, inside, is_at_end, is_next, no_item, rule, Spot, tag_at, whole_at}
+use Rattle.sz_x509.specs.declared.fault.CertKind.{CertKind}
+use Rattle.sz_x509.specs.declared.fault.CertKind.TheVariants as kinds
+use Rattle.sz_x509.specs.declared.identifier.TheConstants.{BASIC_CONSTRAINTS, KEY_USAGE, SUBJECT_KEY_IDENTIFIER}
+use Rattle.sz_x509.proofs.Spots.{end_from_nothing, Found, found, found_part, holds_from_rule, inside-left, no_part-stands, nothing_left, parts_of_none, rule_from_holds, Stands, stands}
+use Rattle.sz_x509.proofs.Spelled.{alone, and_then, Der_with, last}
+use Rattle.sz_x509.proofs.Values.{bits_test, boolean_test, boolean_value, integer_test, IsBits_from_test, IsBoolean_from_test, IsIntegerOf_from_tests, number_is, u32_test}
+
+-- ---- an item that need not be there
+
+pub after_next : (tag : ℕ) (spot : Spot) → is_next tag spot ≡ true → after_optional tag spot ≡ after spot
+unfolding after_optional
+after_next tag spot next = rw next refl
+
+pub after_other : (tag : ℕ) (spot : Spot) → is_next tag spot ≡ false → after_optional tag spot ≡ spot
+unfolding after_optional
+after_other tag spot other = rw other refl
+
+pub next_tag : (tag : ℕ) (spot : Spot) → is_next tag spot ≡ true → tag_at spot ≡ tag
+unfolding is_next
+next_tag tag spot next = eqb-true (tag_at spot) tag (and_parts _ _ next).1
+
+pub next_stands : (spot : Spot) (tag : ℕ) (content whole rest : List ℕ) → Stands spot tag content whole rest → is_next tag spot ≡ true
+unfolding is_next
+next_stands spot tag content whole rest here =
+    and_from _ _ (not_from_false (is_at_end spot) here.is_some) (eq-eqb (tag_at spot) tag here.tag_is)
+
+-- what begins with no item of this tag
+abbrev pub BeginsWithout : ℕ → List ℕ → Type 0
+BeginsWithout tag bytes = (spot : Spot) → spot.left ≡ bytes → is_next tag spot ≡ false
+
+pub without_nothing : (tag : ℕ) → BeginsWithout tag []
+unfolding is_next is_at_end
+without_nothing tag spot nothing = rw nothing refl
+
+pub without_item : (tag other : ℕ) (content whole rest : List ℕ) → Der other content whole → (other ≡ tag → ⊥) → BeginsWithout tag (whole ++ rest)
+unfolding is_next
+without_item tag other content whole rest item differ spot joined =
+    let here = stands spot other content whole rest item joined in
+    let not_tag : tag_at spot ≡ tag → ⊥ = λ e. differ (sym here.tag_is ∙ e) in
+    and_right _ _ (ne_eqb (tag_at spot) tag not_tag)
+
+-- what is spelled at a spot where an item with this tag may stand, and what follows it
+pub record Optional (spot : Spot) (tag : ℕ) (IsPiece : List ℕ → Type 0) : Type 0 where
+  pub piece : List ℕ
+  pub is_piece : IsPiece piece
+  pub joined : spot.left ≡ piece ++ (after_optional tag spot).left
+  pub after : AreOctets (after_optional tag spot).left
+
+pub absent : (spot : Spot) (tag : ℕ) (IsPiece : List ℕ → Type 0) → AreOctets spot.left → is_next tag spot ≡ false → IsPiece [] → Optional spot tag IsPiece
+absent spot tag IsPiece fits other is =
+    let stays = after_other tag spot other in
+    record { piece = []; is_piece = is; joined = rw stays refl; after = rw stays fits }
+
+pub present : (spot : Spot) (tag : ℕ) (IsPiece : List ℕ → Type 0) → Found spot tag → is_next tag spot ≡ true → IsPiece (whole_at spot) →
+    Optional spot tag IsPiece
+present spot tag IsPiece here next is =
+    let moves = after_next tag spot next in
+    record { piece = whole_at spot; is_piece = is; joined = rw moves here.joined; after = rw moves here.after }
+
+pub found_next : (tag : ℕ) (spot : Spot) → AreOctets spot.left → is_next tag spot ≡ true → no_item kinds.Der spot ≡ None → Found spot tag
+found_next tag spot fits next n = subst (λ (t : ℕ). Found spot t) (next_tag tag spot next) (found kinds.Der spot fits n)
+
+-- ---- issuerUniqueID and subjectUniqueID
+
+pub IsUniqueId_from_none : (tag : ℕ) (spot : Spot) → AreOctets spot.left → unique_id_fault tag spot ≡ None → Optional spot tag (IsUniqueId tag)
+unfolding unique_id_fault
+IsUniqueId_from_none tag spot fits n =
+    elim (cases_Bool (is_next tag spot)) [
+      | inl next ↦
+          let a = parts_of_none _ _ (rw next at n) in
+          let here = found_next tag spot fits next a.0 in
+          present spot tag (IsUniqueId tag) here next (inr (content_at spot, here.is_item))
+      | inr other ↦ absent spot tag (IsUniqueId tag) fits other (inl refl)
+    ]
+
+pub unique_id_clear : (tag : ℕ) (spot : Spot) (piece rest : List ℕ) → IsUniqueId tag piece → BeginsWithout tag rest → spot.left ≡ piece ++ rest →
+    (unique_id_fault tag spot ≡ None) × ((after_optional tag spot).left ≡ rest)
+unfolding unique_id_fault
+unique_id_clear tag spot piece rest (inl nothing) without joined =
+    let left : spot.left ≡ rest = joined ∙ ap (λ (x : List ℕ). x ++ rest) nothing in
+    let other = without spot left in
+    (rw other refl, rw (after_other tag spot other) left)
+unique_id_clear tag spot piece rest (inr item) without joined =
+    let here = stands spot tag item.0 piece rest item.1 joined in
+    let next = next_stands spot tag item.0 piece rest here in
+    (rw (next, here.is_item) refl, rw (after_next tag spot next) here.after_is)
+
+pub without_unique_id : (tag other : ℕ) (piece rest : List ℕ) → IsUniqueId other piece → (other ≡ tag → ⊥) → BeginsWithout tag rest →
+    BeginsWithout tag (piece ++ rest)
+without_unique_id tag other piece rest (inl nothing) differ without = λ spot joined. without spot (joined ∙ ap (λ (x : List ℕ). x ++ rest) nothing)
+without_unique_id tag other piece rest (inr item) differ without = without_item tag other item.0 piece rest item.1 differ
+
+-- ---- BOOLEAN DEFAULT FALSE
+
+pub flag_at-other : (spot : Spot) → is_next BOOLEAN spot ≡ false → flag_at spot ≡ false
+unfolding flag_at
+flag_at-other spot other = and_left _ _ other
+
+pub flag_at-next : (spot : Spot) → is_next BOOLEAN spot ≡ true → flag_at spot ≡ is_true_content (content_at spot)
+unfolding flag_at
+flag_at-next spot next = rw next refl
+
+pub IsFlag_from_none : (spot : Spot) → AreOctets spot.left → flag_fault spot ≡ None → Optional spot BOOLEAN (IsFlag (flag_at spot))
+unfolding flag_fault
+IsFlag_from_none spot fits n =
+    elim (cases_Bool (is_next BOOLEAN spot)) [
+      | inl next ↦
+          let a = parts_of_none _ _ (rw next at n) in
+          let b = parts_of_none _ _ a.1 in
+          let here = found_next BOOLEAN spot fits next a.0 in
+          let is = IsBoolean_from_test (content_at spot) (holds_from_rule (is_boolean (content_at spot)) kinds.Der spot b.0) in
+          present spot BOOLEAN (IsFlag (flag_at spot)) here next (inr (content_at spot, rw (flag_at-next spot next) is, here.is_item))
+      | inr other ↦ absent spot BOOLEAN (IsFlag (flag_at spot)) fits other (inl (refl, flag_at-other spot other))
+    ]
+
+pub flag_clear : (spot : Spot) (flag : Bool) (piece rest : List ℕ) → IsFlag flag piece → BeginsWithout BOOLEAN rest → spot.left ≡ piece ++ rest →
+    (flag_fault spot ≡ None) × (flag_at spot ≡ flag) × ((after_optional BOOLEAN spot).left ≡ rest)
+unfolding flag_fault
+flag_clear spot flag piece rest (inl nothing) without joined =
+    let left : spot.left ≡ rest = joined ∙ ap (λ (x : List ℕ). x ++ rest) nothing.0 in
+    let other = without spot left in
+    (rw other refl, flag_at-other spot other ∙ sym nothing.1, rw (after_other BOOLEAN spot other) left)
+flag_clear spot flag piece rest (inr item) without joined =
+    let here = stands spot BOOLEAN item.0 piece rest item.2 joined in
+    let next = next_stands spot BOOLEAN item.0 piece rest here in
+    let test : is_boolean (content_at spot) ≡ true = rw here.content_is (boolean_test flag item.0 item.1) in (
+      rw (next, here.is_item, rule_from_holds (is_boolean (content_at spot)) kinds.Der spot test) refl,
+      flag_at-next spot next ∙ ap is_true_content here.content_is ∙ boolean_value flag item.0 item.1,
+      rw (after_next BOOLEAN spot next) here.after_is,
+    )
+
+-- ---- BasicConstraints
+
+pub path_length-next : (spot : Spot) → is_next INTEGER spot ≡ true → path_length_at spot ≡ Some (number_of (content_at spot))
+unfolding path_length_at
+path_length-next spot next = rw next refl
+
+pub path_length-other : (spot : Spot) → is_next INTEGER spot ≡ false → path_length_at spot ≡ None
+unfolding path_length_at
+path_length-other spot other = rw other refl
+
+pub IsPathLength_from_none : (spot : Spot) → AreOctets spot.left → path_length_fault spot ≡ None →
+    Optional spot INTEGER (IsPathLength (path_length_at spot))
+unfolding path_length_fault
+IsPathLength_from_none spot fits n =
+    elim (cases_Bool (is_next INTEGER spot)) [
+      | inl next ↦
+          let a = parts_of_none _ _ (rw next at n) in
+          let b = parts_of_none _ _ a.1 in
+          let c = parts_of_none _ _ b.1 in
+          let here = found_next INTEGER spot fits next a.0 in
+          let octets : AreOctets (content_at spot) = subst AreOctets (inside-left spot) here.inside in
+          let is = IsIntegerOf_from_tests (content_at spot) octets (holds_from_rule (is_integer (content_at spot)) kinds.Der spot b.0)
+          (holds_from_rule (is_u32 (content_at spot)) kinds.Extension spot c.0) in
+          present spot INTEGER (IsPathLength (path_length_at spot)) here next
+          (rw (path_length-next spot next) (is.0, (content_at spot, is.1, here.is_item)))
+      | inr other ↦ absent spot INTEGER (IsPathLength (path_length_at spot)) fits other (rw (path_length-other spot other) refl)
+    ]
+
+pub path_length_clear : (spot : Spot) (path_len : Option ℕ) (piece rest : List ℕ) → IsPathLength path_len piece → BeginsWithout INTEGER rest →
+    spot.left ≡ piece ++ rest → (path_length_fault spot ≡ None) × (path_length_at spot ≡ path_len) × ((after_optional INTEGER spot).left ≡ rest)
+unfolding path_length_fault
+path_length_clear spot None piece rest nothing without joined =
+    let left : spot.left ≡ rest = joined ∙ ap (λ (x : List ℕ). x ++ rest) nothing in
+    let other = without spot left in
+    (rw other refl, path_length-other spot other, rw (after_other INTEGER spot other) left)
+path_length_clear spot (Some n) piece rest (below, item) without joined =
+    let here = stands spot INTEGER item.0 piece rest item.2 joined in
+    let next = next_stands spot INTEGER item.0 piece rest here in
+    let minimal : is_integer (content_at spot) ≡ true = rw here.content_is (integer_test item.0 item.1.minimal) in
+    let fits : is_u32 (content_at spot) ≡ true = rw here.content_is (u32_test n item.0 below item.1) in (
+      rw (
+        next,
+        here.is_item,
+        rule_from_holds (is_integer (content_at spot)) kinds.Der spot minimal,
+        rule_from_holds (is_u32 (content_at spot)) kinds.Extension spot fits,
+      ) refl,
+      path_length-next spot next ∙ ap (λ (x : List ℕ). Some (number_of x)) here.content_is ∙ ap (λ (x : ℕ). Some x) (number_is n item.0 item.1),
+      rw (after_next INTEGER spot next) here.after_is,
+    )
+
+pub IsBasicConstraints_from_none : (spot : Spot) → AreOctets spot.left → basic_constraints_fault spot ≡ None →
+    IsBasicConstraints (flag_at (inside spot)) (path_length_at (path_length_spot spot)) spot.left
+unfolding basic_constraints_fault
+IsBasicConstraints_from_none spot fits n =
+    let a = parts_of_none _ _ n in
+    let b = parts_of_none _ _ a.1 in
+    let c = parts_of_none _ _ b.1 in
+    let d = parts_of_none _ _ c.1 in
+    let e = parts_of_none _ _ d.1 in
+    let sequence = found_part kinds.Der SEQUENCE spot fits a.0 in
+    let flag = IsFlag_from_none (inside spot) sequence.inside b.0 in
+    let path = IsPathLength_from_none (path_length_spot spot) flag.after c.0 in
+    let only = last path.piece path.joined (nothing_left kinds.Der (after_optional INTEGER (path_length_spot spot)) d.0) in
+    let whole = last (whole_at spot) sequence.joined (nothing_left kinds.Der (after spot) e.0) in
+    let item = Der_with (sym (inside-left spot) ∙ and_then flag.piece flag.joined only) sequence.is_item in
+    record {
+      flag = flag.piece;
+      path = path.piece;
+      is_flag = flag.is_piece;
+      is_path = path.is_piece;
+      is_sequence = subst (λ (x : List ℕ). Der SEQUENCE (flag.piece ++ path.piece) x) (sym whole) item;
+    }
+
+without_path_length : (path_len : Option ℕ) (piece : List ℕ) → IsPathLength path_len piece → BeginsWithout BOOLEAN piece
+without_path_length None piece nothing = λ spot left. without_nothing BOOLEAN spot (left ∙ nothing)
+without_path_length (Some n) piece (below, item) = λ spot left.
+    without_item BOOLEAN INTEGER item.0 piece [] item.2 (λ e. absurd (omega arith)) spot (alone piece left)
+
+pub basic_constraints_clear : (spot : Spot) (ca : Bool) (path_len : Option ℕ) (value : List ℕ) → IsBasicConstraints ca path_len value →
+    spot.left ≡ value →
+    (basic_constraints_fault spot ≡ None) × (flag_at (inside spot) ≡ ca) × (path_length_at (path_length_spot spot) ≡ path_len)
+unfolding basic_constraints_fault
+basic_constraints_clear spot ca path_len value is left =
+    let sequence = stands spot SEQUENCE (is.flag ++ is.path) value [] is.is_sequence (alone value left) in
+    let flag = flag_clear (inside spot) ca is.flag is.path is.is_flag (without_path_length path_len is.path is.is_path) sequence.inside_is in
+    let path = path_length_clear (path_length_spot spot) path_len is.path [] is.is_path (without_nothing INTEGER) (alone is.path flag.2) in (
+      rw (
+        no_part-stands kinds.Der spot SEQUENCE (is.flag ++ is.path) value [] sequence,
+        flag.0,
+        path.0,
+        end_from_nothing kinds.Der (after_optional INTEGER (path_length_spot spot)) path.2,
+        end_from_nothing kinds.Der (after spot) sequence.after_is,
+      ) refl,
+      flag.1,
+      path.1,
+    )
+
+-- ---- KeyUsage and SubjectKeyIdentifier
+
+pub bits_of : (content : List ℕ) → is_bits content ≡ true → (unused : ℕ) × (octets : List ℕ) × (content ≡ unused ∷ octets) × IsBits unused octets
+bits_of [] e = absurd cc
+bits_of (unused ∷ octets) e = (unused, octets, refl, IsBits_from_test unused octets e)
+
+pub bits_at : (spot : Spot) → key_usage_fault spot ≡ None →
+    (unused : ℕ) × (octets : List ℕ) × (content_at spot ≡ unused ∷ octets) × IsBits unused octets
+unfolding key_usage_fault
+bits_at spot n =
+    let a = parts_of_none _ _ n in
+    let b = parts_of_none _ _ a.1 in
+    bits_of (content_at spot) (holds_from_rule (is_bits (content_at spot)) kinds.Der spot b.0)
+
+pub IsKeyUsage_from_none : (spot : Spot) (usage : ℕ) → AreOctets spot.left → key_usage_fault spot ≡ None → usage < 2 ^ 16 →
+    HoldsBits (content_at spot) usage → IsKeyUsage usage spot.left
+unfolding key_usage_fault
+IsKeyUsage_from_none spot usage fits n below holds =
+    let a = parts_of_none _ _ n in
+    let b = parts_of_none _ _ a.1 in
+    let c = parts_of_none _ _ b.1 in
+    let here = found_part kinds.Der BIT_STRING spot fits a.0 in
+    let whole = last (whole_at spot) here.joined (nothing_left kinds.Der (after spot) c.0) in
+    record {
+      content = content_at spot;
+      of_16_bits = below;
+      holds_bits = holds;
+      is_item = subst (λ (x : List ℕ). Der BIT_STRING (content_at spot) x) (sym whole) here.is_item;
+    }
+
+pub bits_content_test : (content : List ℕ) (usage : ℕ) → HoldsBits content usage → is_bits content ≡ true
+bits_content_test content usage holds = rw holds.2 (bits_test holds.0 holds.1 holds.3)
+
+pub key_usage_clear : (spot : Spot) (usage : ℕ) (value : List ℕ) → IsKeyUsage usage value → spot.left ≡ value →
+    (key_usage_fault spot ≡ None) × HoldsBits (content_at spot) usage
+unfolding key_usage_fault
+key_usage_clear spot usage value is left =
+    let here = stands spot BIT_STRING is.content value [] is.is_item (alone value left) in
+    let holds : HoldsBits (content_at spot) usage = rw here.content_is is.holds_bits in (
+      rw (
+        no_part-stands kinds.Der spot BIT_STRING is.content value [] here,
+        rule_from_holds (is_bits (content_at spot)) kinds.Der spot (bits_content_test (content_at spot) usage holds),
+        end_from_nothing kinds.Der (after spot) here.after_is,
+      ) refl,
+      holds,
+    )
+
+pub IsKeyIdentifier_from_none : (spot : Spot) → AreOctets spot.left → key_identifier_fault spot ≡ None → Der OCTET_STRING (content_at spot) spot.left
+unfolding key_identifier_fault
+IsKeyIdentifier_from_none spot fits n =
+    let a = parts_of_none _ _ n in
+    let b = parts_of_none _ _ a.1 in
+    let here = found_part kinds.Der OCTET_STRING spot fits a.0 in
+    let whole = last (whole_at spot) here.joined (nothing_left kinds.Der (after spot) b.0) in
+    subst (λ (x : List ℕ). Der OCTET_STRING (content_at spot) x) (sym whole) here.is_item
+
+pub key_identifier_clear : (spot : Spot) (octets value : List ℕ) → Der OCTET_STRING octets value → spot.left ≡ value →
+    (key_identifier_fault spot ≡ None) × (content_at spot ≡ octets)
+unfolding key_identifier_fault
+key_identifier_clear spot octets value is left =
+    let here = stands spot OCTET_STRING octets value [] is (alone value left) in (
+      rw (
+        no_part-stands kinds.Der spot OCTET_STRING octets value [] here,
+        end_from_nothing kinds.Der (after spot) here.after_is,
+      ) refl,
+      here.content_is,
+    )

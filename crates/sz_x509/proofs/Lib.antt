@@ -1,0 +1,12 @@
+pub mod Spots
+pub mod Values
+pub mod Times
+pub mod Steps
+pub mod Spelled
+pub mod Chains
+pub mod ExtensionLists
+pub mod Restricted
+pub mod Walking
+pub mod Adding
+pub mod Whole
+pub mod OneCertificate

@@ -1,0 +1,14 @@
+//! Laws of the definitions that the contracts cite. Each is the contract of a function that does nothing.
+
+ghost use Rattle.std.specs.Prelude.{◌≡◌, ◌↔◌, List, ℕ, None};
+ghost use Rattle.sz_der.specs.Der.{AreOctets};
+ghost use Rattle.sz_x509.specs.CertFault.{cert_fault};
+ghost use Rattle.sz_x509.specs.Certificate.{Certificate, CertOf};
+
+/// Octets have no fault exactly where they are those of a certificate, and of one alone.
+pub fn fault_or_certificate()
+    ensures exactly { (bytes : List ℕ) → AreOctets bytes
+        → ((cert_fault bytes ≡ None) ↔ ((fields : Certificate) × CertOf bytes fields)) }
+    ensures one_certificate { (bytes : List ℕ) (fields other : Certificate)
+        → CertOf bytes fields → CertOf bytes other → fields ≡ other }
+{}
