@@ -165,12 +165,11 @@ fn written(alloc: Global) -> Result<bool, OutOfMemory> {
     object.put_optional_binary(alloc, Name::Nonce, None)?;
     object.put_optional_text(alloc, Name::Id, None)?;
     object.put_optional_text(alloc, Name::Ca, Some("b"))?;
-    let text = write(alloc, &object.into_value())?;
-    Ok(
-        text.as_slice()
-            == br#"{"anchors":"Zm9vYg==","ca":"b","path-length":4294967295,"serial":"A\"1","voucher":{"port":443}}"#.as_slice(),
-    )
+    Ok(write(alloc, &object.into_value())?.as_slice() == WRITTEN)
 }
+
+const WRITTEN: &[u8] =
+    br#"{"anchors":"Zm9vYg==","ca":"b","path-length":4294967295,"serial":"A\"1","voucher":{"port":443}}"#;
 
 #[test]
 fn an_object_in_order(rt: HostRuntime) {

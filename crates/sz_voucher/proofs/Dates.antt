@@ -1,5 +1,5 @@
 -- The text of a date reads back as its second.
-use Rattle.std.proofs.Common.{◌≡◌, ℕ, nat_lt, ◌+◌, ◌*◌, ◌<◌, ◌≤◌, false, List, ◌++◌, Some, None, append_assoc, refl, arith, ℤ, pos, negsuc, ◌*ℤ◌}
+use Rattle.std.proofs.Common.{◌≡◌, ℕ, nat_lt, ◌<◌, ◌≤◌, false, List, ◌++◌, Some, None, append_assoc, refl, arith, ℤ, pos, negsuc, ◌*ℤ◌}
 use Rattle.std.proofs.lemmas.Bool.Decides.{nat_tests}
 use Rattle.std.specs.Int.{int_div_euclid}
 use Rattle.jiff_core.proofs.SignedLemmas.{signed_arith}
@@ -16,7 +16,7 @@ use Rattle.sz_calendar.proofs.Days.{days_in_month-is, epoch_day-is}
 use Rattle.sz_calendar.specs.CivilTime.{CivilTime, IsDated, IsReal}
 use Rattle.sz_calendar.specs.Gregorian.{IsDate}
 use Rattle.sz_json.specs.Form.{IsInstant, seconds_of}
-use Rattle.sz_voucher.specs.Written.{civil_text, IsDateText, sign_text, year_text}
+use Rattle.sz_voucher.specs.Written.{civil_text, IsDateText, year_text}
 
 -- an instant of `jiff` has a date
 pub dated_instant : (seconds : Seconds) → IsInstant seconds → IsDated seconds.0

@@ -5,7 +5,7 @@ use Rattle.sz_base.specs.declared.moment.Seconds.{Seconds}
 use Rattle.sz_json.proofs.Base64.{base64_of-again}
 use Rattle.sz_json.proofs.Objects.{optional-members_of, or_before-None, required-members_of}
 use Rattle.sz_json.proofs.Readings.{form_from_optional, form_from_required}
-use Rattle.sz_json.specs.Form.{base64_of, binary_of, date_time_of, flag_of, IsInstant, object_of, seconds_of, text_of}
+use Rattle.sz_json.specs.Form.{binary_of, date_time_of, flag_of, IsInstant, object_of, text_of}
 use Rattle.sz_json.specs.Member.{optional}
 use Rattle.sz_json.specs.Object.{binary_value}
 use Rattle.sz_json.specs.declared.name.Name.TheVariants as name

@@ -1,5 +1,5 @@
 -- Whether a voucher is for this device at this moment (RFC 8366 section 5.3, RFC 8572 section 5.4).
-use Rattle.std.specs.Prelude.{◌≡◌, ℕ, ℤ, ◌≤ℤ◌, Bool, true, false, not, int_lt, if◌then◌else◌, List, [], ◌∷◌, Option, Some, None, IfSome, Result, Ok, Err}
+use Rattle.std.specs.Prelude.{◌≡◌, ℕ, ◌≤ℤ◌, Bool, true, false, not, int_lt, if◌then◌else◌, List, [], ◌∷◌, Option, Some, None, IfSome, Result, Ok, Err}
 use Rattle.std.specs.Str.{bytes_eq}
 use Rattle.sz_base.specs.declared.moment.Moment.{Moment}
 use Rattle.sz_base.specs.declared.moment.Seconds.{Seconds}
