@@ -16,3 +16,6 @@ mod tbs;
 pub use cert::Cert;
 pub use fault::{CertFault, CertKind};
 pub use laws::fault_or_certificate;
+
+#[cfg(test)]
+mod tests;
