@@ -1,5 +1,5 @@
 -- The one length that fields declare.
-use Rattle.std.proofs.Common.{◌≡◌, ◌≢◌, ℕ, ◌+◌, ◌<◌, ◌≤◌, List, [], ◌∷◌, ◌++◌, length, get_or, take, drop, refl, sym, ap, ◌∙◌, subst, arith, append-nil, length-append, Option, Some, None, Result, Ok, Err, All, IfNone, ◌^◌}
+use Rattle.std.proofs.Common.{◌≡◌, ℕ, ◌+◌, ◌<◌, List, [], ◌∷◌, ◌++◌, length, get_or, take, drop, sym, ap, ◌∙◌, subst, arith, append-nil, length-append, Option, Some, None, Result, Ok, Err, All, IfNone, ◌^◌}
 use Rattle.std.specs.Char.{is_ascii_digit}
 use Rattle.std.specs.List.{AllPass}
 use Rattle.std.specs.Result.{OkIff, result_ok}
@@ -7,7 +7,7 @@ use Rattle.std.specs.Str.Parse.{ParsesUnsigned, digits_value}
 use Rattle.std.proofs.lemmas.Str.Parse.{parse_digits}
 use Rattle.sz_base.proofs.Numerals.{own}
 use Rattle.std.proofs.lemmas.List.Elements.{All-cons, All-head, All-nil, All-tail}
-use Rattle.sz_body.specs.Framing.{FieldList, value_if, values, content_length, IsLength, EachLengthIs, DeclaresLength, DeclaresNoLength, HasNoOneLength, Declares, Contradicts}
+use Rattle.sz_body.specs.Framing.{FieldList, value_if, values, content_length, IsLength, DeclaresLength, DeclaresNoLength, HasNoOneLength, Declares, Contradicts}
 use Rattle.sz_body.proofs.Values.{values_more, values_at, values_split, each_found, each_more}
 
 -- what the fields declare, if anything

@@ -5,7 +5,7 @@ use Rattle.std.specs.List.{AllPass, filter_map}
 use Rattle.std.specs.Str.{str_to_ascii_lowercase, bytes_eq}
 use Rattle.std.specs.Str.Parse.{digits_value}
 use Rattle.sz_head.specs.declared.kind.Kind.{Kind}
-use Rattle.sz_head.specs.declared.kind.Kind.TheVariants.{Request, Reply, Trailer}
+use Rattle.sz_head.specs.declared.kind.Kind.TheVariants.{Reply}
 use Rattle.sz_body.specs.declared.framing.Framing.{Framing}
 use Rattle.sz_body.specs.declared.framing.Framing.TheVariants.{Length, Chunks, UntilEnd}
 use Rattle.sz_body.specs.declared.framing.FramingFault.{FramingFault}
@@ -96,7 +96,8 @@ HasLength kind fields n = DeclaresLength fields n ⊎ ((kind ≢ Reply) × Decla
 -- how the body is framed, or why it is refused: a bad length comes first, then a coding, then a length over the limit
 abbrev pub Frames : Kind → FieldList → ℕ → Result Framing FramingFault → Type 0
 Frames kind fields limit (Ok Chunks) = HasKnownCodings fields × IsCoded fields × DeclaresNoLength fields
-Frames kind fields limit (Ok (Length n)) = HasKnownCodings fields × (¬ (IsCoded fields)) × HasLength kind fields n × (n ≤ limit)
+Frames kind fields limit (Ok (Length n)) =
+    HasKnownCodings fields × (¬ (IsCoded fields)) × HasLength kind fields n × (n ≤ limit)
 Frames kind fields limit (Ok UntilEnd) =
     HasKnownCodings fields × (¬ (IsCoded fields)) × DeclaresNoLength fields × (kind ≡ Reply)
 Frames kind fields limit (Err BadHead) = HasBadLength fields

@@ -1,4 +1,4 @@
-use Rattle.std.proofs.Common.{refl, sym, subst, ◌∙◌, arith, List, ℕ, All, option_copied}
+use Rattle.std.proofs.Common.{refl, subst, arith, List, ℕ, All, option_copied}
 use Rattle.std.proofs.lemmas.Bool.{false≢true, iff_false}
 use Rattle.sz_head.specs.Parts.{fields_of}
 use Rattle.sz_body.specs.Framing.{IsSameText}
