@@ -35,16 +35,24 @@ levels_within zero key message bytes ok =
     omega (arith, ok_length key message bytes ok, within_longest key (types_of key message bytes ok) (ok_whole_level key message bytes ok).known)
 levels_within (suc n) key message bytes h =
     let (signature, next, rest, e, ok, more) = h in
-    omega (arith, ap length e, length-append (signature ++ next) rest, length-append signature next, ok_length key next signature ok,
-    within_longest key (types_of key next signature ok) (ok_whole_level key next signature ok).known,
-    (levels_key n next message rest more).0, levels_within n next message rest more)
+    omega (
+      arith,
+      ap length e,
+      length-append (signature ++ next) rest,
+      length-append signature next,
+      ok_length key next signature ok,
+      within_longest key (types_of key next signature ok) (ok_whole_level key next signature ok).known,
+      (levels_key n next message rest more).0,
+      levels_within n next message rest more,
+    )
 
 pub no_longer : (public message signature : List ℕ) → HssOk public message signature → (length public ≡ 60) × (length signature ≤ 74988)
 no_longer public message signature ok =
     let size = (levels_key ok.below ok.key message ok.levels ok.each).0 in
-    let few = ok.few in
-    (omega (arith, ap length ok.public_is, size),
-    omega (arith, ap length ok.signature_is, levels_within ok.below ok.key message ok.levels ok.each, few))
+    let few = ok.few in (
+      omega (arith, ap length ok.public_is, size),
+      omega (arith, ap length ok.signature_is, levels_within ok.below ok.key message ok.levels ok.each, few),
+    )
 
 -- ---- a front of bytes
 
@@ -210,11 +218,12 @@ uncut most bytes short = elim (cases_lt most (length bytes)) [
 ]
 
 pub ok_cut : (public message signature : List ℕ) → HssOk (take 61 public) message (take 74989 signature) ↔ HssOk public message signature
-ok_cut public message signature =
-    (λ ok.
-    let sizes = no_longer (take 61 public) message (take 74989 signature) ok in
-    subst₂ (λ (key bytes : List ℕ). HssOk key message bytes) (uncut 60 public (omega (arith, sizes.0))) (uncut 74988 signature sizes.1) ok,
-    λ ok.
-    let sizes = no_longer public message signature ok in
-    subst₂ (λ (key bytes : List ℕ). HssOk key message bytes) (sym (take_all 61 public (omega (arith, sizes.0))))
-    (sym (take_all 74989 signature (omega (arith, sizes.1)))) ok)
+ok_cut public message signature = (
+  λ ok.
+      let sizes = no_longer (take 61 public) message (take 74989 signature) ok in
+      subst₂ (λ (key bytes : List ℕ). HssOk key message bytes) (uncut 60 public (omega (arith, sizes.0))) (uncut 74988 signature sizes.1) ok,
+  λ ok.
+      let sizes = no_longer public message signature ok in
+      subst₂ (λ (key bytes : List ℕ). HssOk key message bytes) (sym (take_all 61 public (omega (arith, sizes.0))))
+      (sym (take_all 74989 signature (omega (arith, sizes.1)))) ok,
+)

@@ -106,7 +106,13 @@ fn words_and_faults_have_their_line_and_status(rt: HostRuntime) -> Result<(), Fa
         (&[b"check", b"p", b"m", b"-s"], 0, 0, b"usage\n", 2),
         (&[b"check", b"p", b"m", b"\xff"], 0, 0, b"usage\n", 2),
         (&[b"check", b"--", b"p", b"m", b"s"], 0, 0, b"valid\n", 0),
-        (&[b"check", b"p", b"m", b"p"], 0, 0, b"not valid: levels\n", 3),
+        (
+            &[b"check", b"p", b"m", b"p"],
+            0,
+            0,
+            b"not valid: levels\n",
+            3,
+        ),
         (
             &[b"check", b"missing.pub", b"m", b"s"],
             0,
