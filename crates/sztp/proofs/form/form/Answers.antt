@@ -1,4 +1,4 @@
-use Rattle.std.proofs.Common.{◌≡◌, ◌<◌, ◌∙◌, length, get_or, rules, arith, ap}
+use Rattle.std.proofs.Common.{◌≡◌, ◌<◌, ◌∙◌, length, get_or, rules, ap}
 use Rattle.clap.specs.Simple.{app_of, with_rule}
 use Rattle.clap.specs.Walk.{rule_of}
 use Rattle.sztp.proofs.Forms.{form_more}
