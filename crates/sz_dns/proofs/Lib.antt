@@ -1,0 +1,11 @@
+pub mod Fields
+pub mod Fronts
+pub mod Hosts
+pub mod Names
+pub mod Orders
+pub mod Parts
+pub mod Reading
+pub mod Splits
+pub mod Steps
+pub mod Told
+pub mod Ways
