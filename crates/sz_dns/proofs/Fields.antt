@@ -27,9 +27,9 @@ in_parts bytes tail long octets behind =
     ∙ ap (λ (xs : List ℕ). two_bytes (number_at bytes 0) ++ xs) (pair_at bytes 2 (omega arith) octets)
     ∙ ap (λ (xs : List ℕ). two_bytes (number_at bytes 0) ++ (two_bytes (number_at bytes 2) ++ xs)) (four_at bytes 4 8 refl)
     ∙ ap (λ (xs : List ℕ). two_bytes (number_at bytes 0) ++ (two_bytes (number_at bytes 2) ++ (take 4 (drop 4 bytes) ++ xs)))
-      (pair_at bytes 8 (omega arith) octets)
+    (pair_at bytes 8 (omega arith) octets)
     ∙ ap (λ (xs : List ℕ). two_bytes (number_at bytes 0)
-        ++ (two_bytes (number_at bytes 2) ++ (take 4 (drop 4 bytes) ++ (two_bytes (number_at bytes 8) ++ xs)))) behind
+    ++ (two_bytes (number_at bytes 2) ++ (take 4 (drop 4 bytes) ++ (two_bytes (number_at bytes 8) ++ xs)))) behind
 
 pub fields_at : (bytes contents rest : List ℕ) (kind class : ℕ) → AreOctets bytes → 10 ≤ length bytes
     → drop 10 bytes ≡ contents ++ rest → kind ≡ number_at bytes 0 → class ≡ number_at bytes 2 → length contents ≡ number_at bytes 8
@@ -42,10 +42,10 @@ fields_at bytes contents rest kind class octets long behind kinds classes sizes 
       own,
       are,
       whole
-      ∙ ap (λ (n : ℕ). two_bytes n ++ (two_bytes (number_at bytes 2) ++ (time_in bytes ++ (two_bytes (number_at bytes 8) ++ (contents ++ rest))))) (sym kinds)
-      ∙ ap (λ (n : ℕ). two_bytes kind ++ (two_bytes n ++ (time_in bytes ++ (two_bytes (number_at bytes 8) ++ (contents ++ rest))))) (sym classes)
-      ∙ ap (λ (n : ℕ). two_bytes kind ++ (two_bytes class ++ (time_in bytes ++ (two_bytes n ++ (contents ++ rest))))) (sym sizes)
-      ∙ sym (in_order kind class contents own rest are),
+          ∙ ap (λ (n : ℕ). two_bytes n ++ (two_bytes (number_at bytes 2) ++ (time_in bytes ++ (two_bytes (number_at bytes 8) ++ (contents ++ rest))))) (sym kinds)
+          ∙ ap (λ (n : ℕ). two_bytes kind ++ (two_bytes n ++ (time_in bytes ++ (two_bytes (number_at bytes 8) ++ (contents ++ rest))))) (sym classes)
+          ∙ ap (λ (n : ℕ). two_bytes kind ++ (two_bytes class ++ (time_in bytes ++ (two_bytes n ++ (contents ++ rest))))) (sym sizes)
+          ∙ sym (in_order kind class contents own rest are),
     )
 
 -- a header without an error

@@ -22,10 +22,16 @@ another : (message name : List ℕ) (count : ℕ) (bytes left rest : List ℕ) (
 another message name zero bytes left rest candidates own item none is gives =
     let here = rw (← none.1) at is in
     (item, own, [], rest, here, gives, ap (λ (xs : List Candidate). xs ++ own) none.0 ∙ sym (append-nil own), (refl, refl))
-another message name (suc count) bytes left rest candidates own item (first, firsts, others, after, read, given, joined, records) is gives =
-    (first, firsts, others ++ own, after, read, given,
-    ap (λ (xs : List Candidate). xs ++ own) joined ∙ append_assoc firsts others own,
-    another message name count after left rest others own item records is gives)
+another message name (suc count) bytes left rest candidates own item (first, firsts, others, after, read, given, joined, records) is gives = (
+  first,
+  firsts,
+  others ++ own,
+  after,
+  read,
+  given,
+  ap (λ (xs : List Candidate). xs ++ own) joined ∙ append_assoc firsts others own,
+  another message name count after left rest others own item records is gives,
+)
 
 pub record_more : (message name : List ℕ) (count : ℕ) (bytes left rest : List ℕ) (candidates new own : List Candidate) (item : Record)
     → AreRecords message name count bytes candidates left → IsRecord message left item rest → GivesCandidates message name item own

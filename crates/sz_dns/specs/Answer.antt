@@ -70,7 +70,7 @@ pub data IsItemFault (message name bytes : List ℕ) : DnsKind → ℕ → Type 
   in_service : {item : Record} {rest : List ℕ} {kind : DnsKind} {place : ℕ} → IsRecord message bytes item rest
       → counts name item ≡ true
       → IsServiceFault message item.contents (length message - length bytes)
-        (length message - length rest - length item.contents) kind place
+      (length message - length rest - length item.contents) kind place
       → IsItemFault message name bytes kind place
 
 -- The rules in their order: the header, the questions from the front, the answer records from the front.

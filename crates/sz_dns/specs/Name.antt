@@ -60,13 +60,13 @@ unfoldable pub front_fault : List ℕ → ℕ → ℕ → Option DnsKind
 front_fault bytes size pointers =
     let first = slice_index bytes 0 in
     first_of (
-      (length bytes == 0, Short)
-      ∷ (is_pointer first && length bytes == 1, Short)
-      ∷ (is_pointer first && nat_le MOST_POINTERS pointers, Pointer)
-      ∷ (is_label first && nat_le (length bytes) first, Short)
-      ∷ (is_label first && nat_lt MOST_BYTES (size + 1 + first + 1), Pointer)
-      ∷ (nat_le 64 first && nat_lt first 192, Label)
-      ∷ [])
+    (length bytes == 0, Short)
+    ∷ (is_pointer first && length bytes == 1, Short)
+    ∷ (is_pointer first && nat_le MOST_POINTERS pointers, Pointer)
+    ∷ (is_label first && nat_le (length bytes) first, Short)
+    ∷ (is_label first && nat_lt MOST_BYTES (size + 1 + first + 1), Pointer)
+    ∷ (nat_le 64 first && nat_lt first 192, Label)
+    ∷ [])
 
 -- The fault of a name that goes on at the front of the bytes, after labels of so many bytes and so many pointers: it is
 -- there, or behind a label or a pointer with which nothing is wrong.

@@ -85,7 +85,14 @@ fn candidates(
     'records: while read < count {
         let item = read_record(alloc, message, left)?;
         let start = message.len() - left.len();
-        push_candidate(alloc, &mut candidates, message, name.as_slice(), &item, start)?;
+        push_candidate(
+            alloc,
+            &mut candidates,
+            message,
+            name.as_slice(),
+            &item,
+            start,
+        )?;
         left = item.rest;
         read += 1;
     }

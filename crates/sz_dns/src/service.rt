@@ -204,7 +204,10 @@ fn is_host_byte(byte: u8) -> bool
 }
 
 /// The targets by priority, and those of one priority in the order of the candidates.
-pub(crate) fn by_priority(alloc: Global, candidates: Items<Candidate>) -> Result<Targets, OutOfMemory>
+pub(crate) fn by_priority(
+    alloc: Global,
+    candidates: Items<Candidate>,
+) -> Result<Targets, OutOfMemory>
     ensures { IfOk result (λ targets. (ordered : List Candidate) × AreByPriority candidates ordered
         × (targets ≡ map (λ candidate. candidate.target) ordered)) }
 {

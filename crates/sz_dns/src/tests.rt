@@ -20,11 +20,9 @@ const fn bad(kind: DnsKind, place: usize) -> Answer {
 
 fn are(targets: &Targets, wanted: Wanted<'_>) -> bool {
     targets.len() == wanted.len()
-        && targets
-            .as_slice()
-            .iter()
-            .zip(wanted)
-            .all(|(target, want)| target.host.as_slice() == want.0 && target.port == want.1)
+        && targets.as_slice().iter().zip(wanted).all(|(target, want)| target.host.as_slice()
+            == want.0
+            && target.port == want.1)
 }
 
 // identifier, flags of an answer with recursion, one question, so many answer records, and none of the others
@@ -45,9 +43,11 @@ fn gives(alloc: Global, count: u8, record: &[u8], more: &[u8], wanted: Wanted<'_
 
 // the owner as a pointer to the question's name, type 33, class 1, an hour, and the length of the data
 // (section 4.1.3); then priority, weight, port, and the target under the domain of the question (RFC 2782)
-const FIRST: &[u8] = b"\xc0\x0c\x00\x21\x00\x01\x00\x00\x0e\x10\x00\x0a\x00\x14\x00\x05\x01\xbb\x01a\xc0\x17";
+const FIRST: &[u8] =
+    b"\xc0\x0c\x00\x21\x00\x01\x00\x00\x0e\x10\x00\x0a\x00\x14\x00\x05\x01\xbb\x01a\xc0\x17";
 
-const OTHERS: &[u8] = b"\xc0\x0c\x00\x21\x00\x01\x00\x00\x0e\x10\x00\x0a\x00\x0a\x00\x05\x01\xbb\x01b\xc0\x17\
+const OTHERS: &[u8] =
+    b"\xc0\x0c\x00\x21\x00\x01\x00\x00\x0e\x10\x00\x0a\x00\x0a\x00\x05\x01\xbb\x01b\xc0\x17\
 \xc0\x0c\x00\x21\x00\x01\x00\x00\x0e\x10\x00\x0a\x00\x0a\x00\x00\x20\xfb\x01c\xc0\x17";
 
 #[test]
@@ -63,16 +63,55 @@ fn services_are_taken_by_priority(rt: HostRuntime) {
         (0, FIRST, OTHERS, NONE),
         // letters in the other case, then another type, another class, another owner, the root, port 0, and a mark
         (1, b"\x05_SZTP\x04_Tcp\xc0\x17", FIRST.split_at(2).1, A),
-        (2, b"\xc0\x0c\x00\x10\x00\x01\x00\x00\x0e\x10\x00\x02\x01a", FIRST, A),
-        (2, b"\xc0\x0c\x00\x21\x00\x03\x00\x00\x0e\x10\x00\x02\x01a", FIRST, A),
-        (2, b"\xc0\x12\x00\x21\x00\x01\x00\x00\x0e\x10\x00\x02\x01a", FIRST, A),
-        (2, b"\xc0\x0c\x00\x21\x00\x01\x00\x00\x0e\x10\x00\x07\x00\x00\x00\x00\x01\xbb\x00", FIRST, A),
-        (2, b"\xc0\x0c\x00\x21\x00\x01\x00\x00\x0e\x10\x00\x0a\x00\x00\x00\x00\x00\x00\x01a\xc0\x17", FIRST, A),
-        (2, b"\xc0\x0c\x00\x21\x00\x01\x00\x00\x0e\x10\x00\x0a\x00\x00\x00\x00\x01\xbb\x01*\xc0\x17", FIRST, A),
+        (
+            2,
+            b"\xc0\x0c\x00\x10\x00\x01\x00\x00\x0e\x10\x00\x02\x01a",
+            FIRST,
+            A,
+        ),
+        (
+            2,
+            b"\xc0\x0c\x00\x21\x00\x03\x00\x00\x0e\x10\x00\x02\x01a",
+            FIRST,
+            A,
+        ),
+        (
+            2,
+            b"\xc0\x12\x00\x21\x00\x01\x00\x00\x0e\x10\x00\x02\x01a",
+            FIRST,
+            A,
+        ),
+        (
+            2,
+            b"\xc0\x0c\x00\x21\x00\x01\x00\x00\x0e\x10\x00\x07\x00\x00\x00\x00\x01\xbb\x00",
+            FIRST,
+            A,
+        ),
+        (
+            2,
+            b"\xc0\x0c\x00\x21\x00\x01\x00\x00\x0e\x10\x00\x0a\x00\x00\x00\x00\x00\x00\x01a\xc0\x17",
+            FIRST,
+            A,
+        ),
+        (
+            2,
+            b"\xc0\x0c\x00\x21\x00\x01\x00\x00\x0e\x10\x00\x0a\x00\x00\x00\x00\x01\xbb\x01*\xc0\x17",
+            FIRST,
+            A,
+        ),
         // bytes behind the target
-        (1, b"\xc0\x0c\x00\x21\x00\x01\x00\x00\x0e\x10\x00\x0b\x00\x14\x00\x05\x01\xbb\x01a\xc0\x17\xff", b"", A),
+        (
+            1,
+            b"\xc0\x0c\x00\x21\x00\x01\x00\x00\x0e\x10\x00\x0b\x00\x14\x00\x05\x01\xbb\x01a\xc0\x17\xff",
+            b"",
+            A,
+        ),
     ] {
-        assert_eq!(rt; gives(rt.alloc(), count, record, more, want), GIVES, "at {record:?}");
+        assert_eq!(rt;
+            gives(rt.alloc(), count, record, more, want),
+            GIVES,
+            "at {record:?}"
+        );
     }
 }
 
@@ -84,41 +123,86 @@ fn each_fault_is_told_at_its_place(rt: HostRuntime) {
         (1, &b""[..], &b""[..], bad(DnsKind::Short, 40)),
         (1, b"\xc0", b"", bad(DnsKind::Short, 40)),
         (1, b"\xff\xff", b"", bad(DnsKind::Short, 40)),
-        (1, b"\x00\x00\x21\x00\x01\x00\x00\x0e\x10\x00", b"", bad(DnsKind::Short, 40)),
+        (
+            1,
+            b"\x00\x00\x21\x00\x01\x00\x00\x0e\x10\x00",
+            b"",
+            bad(DnsKind::Short, 40),
+        ),
         (2, FIRST, FIRST.split_at(20).0, bad(DnsKind::Short, 62)),
         // data of five bytes, and a target that passes the data
-        (1, FIRST.split_at(10).0, b"\x00\x05\x00\x14\x00\x05\x01", bad(DnsKind::Short, 40)),
-        (1, FIRST.split_at(10).0, b"\x00\x08\x00\x14\x00\x05\x01\xbb\x01a\xc0\x17", bad(DnsKind::Short, 40)),
+        (
+            1,
+            FIRST.split_at(10).0,
+            b"\x00\x05\x00\x14\x00\x05\x01",
+            bad(DnsKind::Short, 40),
+        ),
+        (
+            1,
+            FIRST.split_at(10).0,
+            b"\x00\x08\x00\x14\x00\x05\x01\xbb\x01a\xc0\x17",
+            bad(DnsKind::Short, 40),
+        ),
         // labels of other kinds, in an owner, and in a target at 58
         (1, b"\x40", b"", bad(DnsKind::Label, 40)),
         (1, b"\x01a\x80", b"", bad(DnsKind::Label, 40)),
-        (1, FIRST.split_at(10).0, b"\x00\x07\x00\x14\x00\x05\x01\xbb\xbf", bad(DnsKind::Label, 58)),
+        (
+            1,
+            FIRST.split_at(10).0,
+            b"\x00\x07\x00\x14\x00\x05\x01\xbb\xbf",
+            bad(DnsKind::Label, 58),
+        ),
         // pointers to themselves
         (1, b"\xc0\x28", b"", bad(DnsKind::Pointer, 40)),
-        (1, FIRST.split_at(10).0, b"\x00\x08\x00\x14\x00\x05\x01\xbb\xc0\x3a", bad(DnsKind::Pointer, 58)),
+        (
+            1,
+            FIRST.split_at(10).0,
+            b"\x00\x08\x00\x14\x00\x05\x01\xbb\xc0\x3a",
+            bad(DnsKind::Pointer, 58),
+        ),
     ] {
-        assert_eq!(rt; gives(rt.alloc(), count, record, more, NONE), answer, "at {record:?}{more:?}");
+        assert_eq!(rt;
+            gives(rt.alloc(), count, record, more, NONE),
+            answer,
+            "at {record:?}{more:?}"
+        );
     }
 }
 
 #[test]
 fn a_message_needs_its_header(rt: HostRuntime) {
     for (message, answer) in [
-        (&b"\x12\x34\x81\x80\x00\x01\x00\x00\x00\x00\x00"[..], bad(DnsKind::Short, 0)),
+        (
+            &b"\x12\x34\x81\x80\x00\x01\x00\x00\x00\x00\x00"[..],
+            bad(DnsKind::Short, 0),
+        ),
         // no such name, which is code 3
         (b"\x12\x34\x81\x83\x00\x01\x00\x00\x00\x00\x00\x00", GIVES),
         // a question that is a pointer to itself, and one without its class
-        (b"\x12\x34\x81\x80\x00\x01\x00\x00\x00\x00\x00\x00\xc0\x0c\x00\x21\x00\x01", bad(DnsKind::Pointer, 12)),
-        (b"\x12\x34\x81\x80\x00\x01\x00\x00\x00\x00\x00\x00\x00\x00\x21", bad(DnsKind::Short, 12)),
+        (
+            b"\x12\x34\x81\x80\x00\x01\x00\x00\x00\x00\x00\x00\xc0\x0c\x00\x21\x00\x01",
+            bad(DnsKind::Pointer, 12),
+        ),
+        (
+            b"\x12\x34\x81\x80\x00\x01\x00\x00\x00\x00\x00\x00\x00\x00\x21",
+            bad(DnsKind::Short, 12),
+        ),
     ] {
-        assert_eq!(rt; targets(rt.alloc(), message, b"example.com").map(|found| found.is_empty()), answer, "at {message:?}");
+        assert_eq!(rt;
+            targets(rt.alloc(), message, b"example.com").map(|found| found.is_empty()),
+            answer,
+            "at {message:?}"
+        );
     }
 }
 
 // a message without questions whose one record has for its owner the first of so many pointers, each to the next, of
 // which the last leads to the root
 fn behind_pointers(alloc: Global, count: u8) -> Result<Bytes, OutOfMemory> {
-    let mut message = Bytes::from_slice(alloc, b"\x12\x34\x81\x80\x00\x00\x00\x01\x00\x00\x00\x00")?;
+    let mut message = Bytes::from_slice(
+        alloc,
+        b"\x12\x34\x81\x80\x00\x00\x00\x01\x00\x00\x00\x00",
+    )?;
     message.append(b"\xc0\x19\x00\x01\x00\x01\x00\x00\x0e\x10\x00\x00\x00")?;
     let mut place = 25u16;
     for _ in 1..count {
@@ -133,14 +217,23 @@ fn behind_pointers(alloc: Global, count: u8) -> Result<Bytes, OutOfMemory> {
 fn a_name_has_127_pointers_at_most(rt: HostRuntime) -> Result<(), OutOfMemory> {
     let most = behind_pointers(rt.alloc(), 127)?;
     let more = behind_pointers(rt.alloc(), 128)?;
-    assert_eq!(rt; targets(rt.alloc(), most.as_slice(), b"a").map(|found| found.is_empty()), GIVES);
-    assert_eq!(rt; targets(rt.alloc(), more.as_slice(), b"a").map(|found| found.is_empty()), bad(DnsKind::Pointer, 12));
+    assert_eq!(rt;
+        targets(rt.alloc(), most.as_slice(), b"a").map(|found| found.is_empty()),
+        GIVES
+    );
+    assert_eq!(rt;
+        targets(rt.alloc(), more.as_slice(), b"a").map(|found| found.is_empty()),
+        bad(DnsKind::Pointer, 12)
+    );
     Ok(())
 }
 
 // a question with three labels of 63 bytes, one of so many, and the root
 fn long_name(alloc: Global, last: &[u8]) -> Result<Bytes, OutOfMemory> {
-    let mut message = Bytes::from_slice(alloc, b"\x12\x34\x81\x80\x00\x01\x00\x00\x00\x00\x00\x00")?;
+    let mut message = Bytes::from_slice(
+        alloc,
+        b"\x12\x34\x81\x80\x00\x01\x00\x00\x00\x00\x00\x00",
+    )?;
     for _ in 0..3 {
         message.append(b"\x3f")?;
         message.append(&[b'a'; 63])?;
@@ -157,7 +250,13 @@ fn a_name_has_255_bytes_at_most(rt: HostRuntime) -> Result<(), OutOfMemory> {
     let most = long_name(rt.alloc(), &label[..62])?;
     label[0] = 62;
     let more = long_name(rt.alloc(), &label)?;
-    assert_eq!(rt; targets(rt.alloc(), most.as_slice(), b"a").map(|found| found.is_empty()), GIVES);
-    assert_eq!(rt; targets(rt.alloc(), more.as_slice(), b"a").map(|found| found.is_empty()), bad(DnsKind::Pointer, 12));
+    assert_eq!(rt;
+        targets(rt.alloc(), most.as_slice(), b"a").map(|found| found.is_empty()),
+        GIVES
+    );
+    assert_eq!(rt;
+        targets(rt.alloc(), more.as_slice(), b"a").map(|found| found.is_empty()),
+        bad(DnsKind::Pointer, 12)
+    );
     Ok(())
 }

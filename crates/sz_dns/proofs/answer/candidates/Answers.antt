@@ -11,10 +11,15 @@ returns-in_err-item-clause-refused c =
     let p = err_from_is_err_and c.from_residual-in_err-item.result c.from_residual-in_err-item.ensures.1 in
     rw (p.1, p.2)
     (λ kind place e.
-        let found = c.in_err-item.ensures.refused kind place e in
-        let at = found.0 in
-        (c.records.read, c.records.candidates, c.records.left.now, c.records-test.true, c.records.invariant.records,
-        rw at (in_fields found.1)))
+    let found = c.in_err-item.ensures.refused kind place e in
+    let at = found.0 in (
+      c.records.read,
+      c.records.candidates,
+      c.records.left.now,
+      c.records-test.true,
+      c.records.invariant.records,
+      rw at (in_fields found.1),
+    ))
 
 pub returns-in_err-push_candidate-clause-refused : goal.returns-in_err-push_candidate-clause-refused
 returns-in_err-push_candidate-clause-refused c =
@@ -23,9 +28,14 @@ returns-in_err-push_candidate-clause-refused c =
     let refused = rw named at c.in_err-push_candidate.ensures.refused in
     rw (p.1, p.2)
     (λ kind place e.
-        let found = refused kind place e in
-        (c.records.read, c.records.candidates, c.records.left.now, c.records-test.true, c.records.invariant.records,
-        in_service c.in_ok-item.ensures.ok found.0 found.1))
+    let found = refused kind place e in (
+      c.records.read,
+      c.records.candidates,
+      c.records.left.now,
+      c.records-test.true,
+      c.records.invariant.records,
+      in_service c.in_ok-item.ensures.ok found.0 found.1,
+    ))
 
 pub records-preserved : goal.records-preserved
 records-preserved c =

@@ -8,8 +8,8 @@ returns-in_err-left-clause-refused c =
     let p = err_from_is_err_and c.from_residual.result c.from_residual.ensures.1 in
     rw (p.1, p.2)
     (λ kind place e.
-        let found = c.in_err-left.ensures.refused kind place e in
-        (c.questions.read, c.questions.left.now, c.questions-test.true, c.questions.invariant.questions, found.0, found.1))
+    let found = c.in_err-left.ensures.refused kind place e in
+    (c.questions.read, c.questions.left.now, c.questions-test.true, c.questions.invariant.questions, found.0, found.1))
 
 pub questions-preserved : goal.questions-preserved
 questions-preserved c = record {

@@ -21,9 +21,9 @@ returns-in_err-records-clause-refused c =
     let p = err_from_is_err_and c.from_residual.result c.from_residual.ensures.1 in
     rw (p.1, p.2)
     (λ kind place e.
-        let found = c.in_err-records.ensures.refused kind place e in
-        question_fault c.args.answer.now c.args.domain.now c.in-Some.body.now found.1 found.0 c.number.result kind place header split.2
-        questions found.2 found.3 found.4 found.5)
+    let found = c.in_err-records.ensures.refused kind place e in
+    question_fault c.args.answer.now c.args.domain.now c.in-Some.body.now found.1 found.0 c.number.result kind place header split.2
+    questions found.2 found.3 found.4 found.5)
 
 pub returns-in_err-candidates-clause-refused : goal.returns-in_err-candidates-clause-refused
 returns-in_err-candidates-clause-refused c =
@@ -36,9 +36,9 @@ returns-in_err-candidates-clause-refused c =
     let p = err_from_is_err_and c.from_residual-in_err-candidates.result c.from_residual-in_err-candidates.ensures.1 in
     rw (p.1, p.2)
     (λ kind place e.
-        let found = c.in_err-candidates.ensures.refused kind place e in
-        record_fault c.args.answer.now c.args.domain.now c.in-Some.body.now c.in_ok-records.records.now found.2 found.0 c.number-2.result
-        c.number.result found.1 kind place header split.2 questions c.in_ok-records.ensures.ok answers found.3 found.4 found.5)
+    let found = c.in_err-candidates.ensures.refused kind place e in
+    record_fault c.args.answer.now c.args.domain.now c.in-Some.body.now c.in_ok-records.records.now found.2 found.0 c.number-2.result
+    c.number.result found.1 kind place header split.2 questions c.in_ok-records.ensures.ok answers found.3 found.4 found.5)
 
 pub returns-clause-ok : goal.returns-clause-ok
 returns-clause-ok c =

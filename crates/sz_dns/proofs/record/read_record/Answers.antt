@@ -10,8 +10,8 @@ returns-in_err-name-clause-refused c =
     let p = err_from_is_err_and c.from_residual.result c.from_residual.ensures.1 in
     rw (p.1, p.2)
     (λ kind place e.
-        let found = c.in_err-name.ensures.refused kind place e in
-        (found.1 ∙ one_place kind _ _ _ c.at_front-places.ensures.part c.at_front-places.ensures.name, in_owner found.0))
+    let found = c.in_err-name.ensures.refused kind place e in
+    (found.1 ∙ one_place kind _ _ _ c.at_front-places.ensures.part c.at_front-places.ensures.name, in_owner found.0))
 
 pub returns-clause-refused : goal.returns-clause-refused
 returns-clause-refused c =

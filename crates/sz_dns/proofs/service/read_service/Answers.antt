@@ -20,9 +20,9 @@ returns-in_err-target-clause-refused c =
     let p = err_from_is_err_and c.from_residual.result c.from_residual.ensures.1 in
     rw (p.1, p.2)
     (λ kind place e.
-        let found = c.in_err-target.ensures.refused kind place e in
-        let at = found.1 in
-        rw at (in_target c.in-Some.fixed.now c.in-Some.name.now whole split.3 found.0))
+    let found = c.in_err-target.ensures.refused kind place e in
+    let at = found.1 in
+    rw at (in_target c.in-Some.fixed.now c.in-Some.name.now whole split.3 found.0))
 
 pub returns-clause-ok : goal.returns-clause-ok
 returns-clause-ok c =
