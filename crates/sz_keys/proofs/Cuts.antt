@@ -103,7 +103,8 @@ is_there (Some files) path front key = some (bytes_at files path) key
     some None key = absurd (none-some front key)
     some (Some bytes) key = refl
 
-faulty : (paths : Paths) (told : Option FileMap) (failure : Failure) → IsThere told paths.public → IsFaultAt paths.file failure → MayAnswer paths told (Err failure)
+faulty : (paths : Paths) (told : Option FileMap) (failure : Failure) → IsThere told paths.public → IsFaultAt paths.file failure
+    → MayAnswer paths told (Err failure)
 faulty paths told Usage there is = absurd is
 faulty paths told (NoFile path) there is = absurd is
 faulty paths told (FileFault path) there is = inr (inl (is, there))

@@ -70,14 +70,16 @@ refused [] all error (inl memory) other = absurd (other memory)
 refused [] all error (inr none) other = absurd none
 refused (fault ∷ faults) all error has other = refl
 
-pub taken_ok : (form : App) (texts : List (List ℕ)) (matches : ArgMatches) → is_simple_and_free form ≡ true → fault_of form texts ≡ [] → HasMatchesOf form texts matches
+pub taken_ok : (form : App) (texts : List (List ℕ)) (matches : ArgMatches) → is_simple_and_free form ≡ true → fault_of form texts ≡ []
+    → HasMatchesOf form texts matches
     → Some (rows_of (found_of matches)) ≡ taken form texts
 unfolding taken
 taken_ok form texts matches free none has =
     let simple : is_simple form ≡ true = (and_parts (is_simple form) (is_free_app (built form)) free).0 in
     found (fault_of form texts) (rows_of (found_of matches)) (matches_of form texts) none (has simple).0
 
-pub taken_err : (form : App) (texts : List (List ℕ)) (error : Error) → HasKind (fault_of form texts) error → (kind_of error ≡ OutOfMemory → ⊥) → None ≡ taken form texts
+pub taken_err : (form : App) (texts : List (List ℕ)) (error : Error) → HasKind (fault_of form texts) error → (kind_of error ≡ OutOfMemory → ⊥)
+    → None ≡ taken form texts
 unfolding taken
 taken_err form texts error has other = refused (fault_of form texts) (matches_of form texts) error has other
 

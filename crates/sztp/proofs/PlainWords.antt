@@ -41,13 +41,20 @@ behind_dashes public file signature a b c =
 abbrev at : Held → ℕ → Walk
 at held position = record { held = held; waiting = idle; position = position; is_trailing = false; stopped = None }
 
-met_plain : (rules : List Rule) (position : ℕ) (word : List ℕ) (held : Held) → slice_index word 0 ≢ 45 → word_met rules [] false idle position word held ≡ (held, value)
+met_plain : (rules : List Rule) (position : ℕ) (word : List ℕ) (held : Held) → slice_index word 0 ≢ 45
+    → word_met rules [] false idle position word held ≡ (held, value)
 met_plain rules position [] held differs = refl
-met_plain rules position (x ∷ xs) held differs = let other : nat_eq x 45 ≡ false = equal-false x 45 differs in let same : (x == 45) ≡ false = other in rw (other, same) refl
+met_plain rules position (x ∷ xs) held differs =
+    let other : nat_eq x 45 ≡ false = equal-false x 45 differs in
+    let same : (x == 45) ≡ false = other in
+    rw (other, same) refl
 
 sound_plain : (shape : Shape) (word : List ℕ) (held : Held) → slice_index word 0 ≢ 45 → word_fault shape [] false idle word held ≡ []
 sound_plain shape [] held differs = refl
-sound_plain shape (x ∷ xs) held differs = let other : nat_eq x 45 ≡ false = equal-false x 45 differs in let same : (x == 45) ≡ false = other in rw (other, same) refl
+sound_plain shape (x ∷ xs) held differs =
+    let other : nat_eq x 45 ≡ false = equal-false x 45 differs in
+    let same : (x == 45) ≡ false = other in
+    rw (other, same) refl
 
 walked_plain : (rules : List Rule) (held : Held) (position : ℕ) (word : List ℕ) → slice_index word 0 ≢ 45
     → walked rules [] (at held position) word ≡ after_step rules word (at held position) held value
@@ -58,7 +65,8 @@ walked_plain rules held position word differs =
 turn_plain : (shape : Shape) (held : Held) (position : ℕ) (word : List ℕ) → slice_index word 0 ≢ 45
     → turn_fault shape [] (at held position) word ≡ step_fault shape position held value
 turn_plain shape held position word differs =
-    ap₂ or_else (sound_plain shape word held differs) (ap (λ (met : Held × Step). step_fault shape position met.0 met.1) (met_plain shape.rules position word held differs))
+    ap₂ or_else (sound_plain shape word held differs)
+    (ap (λ (met : Held × Step). step_fault shape position met.0 met.1) (met_plain shape.rules position word held differs))
 
 -- ---- a check
 
@@ -102,7 +110,8 @@ module _ (public file signature : List ℕ) where
         ∙ ap (λ (w : Walk). walked rules [] w signature) (walked_plain rules held₁ 2 file b)
         ∙ walked_plain rules held₂ 3 signature c
 
-    faults_behind : (rest : List (List ℕ)) → walk_fault app.top [] (walk_from nothing_held) (public ∷ file ∷ signature ∷ rest) ≡ walk_fault app.top [] (at held₃ 4) rest
+    faults_behind : (rest : List (List ℕ))
+        → walk_fault app.top [] (walk_from nothing_held) (public ∷ file ∷ signature ∷ rest) ≡ walk_fault app.top [] (at held₃ 4) rest
     faults_behind rest =
         fault_next nothing_held 1 public (file ∷ signature ∷ rest) a refl
         ∙ fault_next held₁ 2 file (signature ∷ rest) b refl
@@ -121,7 +130,8 @@ module _ (public file signature : List ℕ) where
     unfolding walk_fault
     fourth_faulty fourth rest differs =
         let words : List (List ℕ) = public ∷ file ∷ signature ∷ fourth ∷ rest in
-        let stray = ap (λ (k : Kinds). or_else k (walk_fault app.top [] (walked rules [] (at held₃ 4) fourth) rest)) (turn_plain app.top held₃ 4 fourth differs) in
+        let after = walk_fault app.top [] (walked rules [] (at held₃ 4) fourth) rest in
+        let stray = ap (λ (k : Kinds). or_else k after) (turn_plain app.top held₃ 4 fourth differs) in
         ap (λ (k : Kinds). faults_with k (walk rules [] nothing_held words)) (faults_behind (fourth ∷ rest) ∙ stray)
 
 pub plain : (public file signature : List ℕ) → IsPlain public → IsPlain file → IsPlain signature

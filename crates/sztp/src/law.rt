@@ -33,7 +33,8 @@ pub fn three_words_are_a_check()
         → words_of (codes "check" ∷ public ∷ file ∷ signature ∷ []) ≡ Some (check_of public file signature) }
     ensures behind_dashes { (public file signature : List ℕ)
         → is_utf8 public ≡ true → is_utf8 file ≡ true → is_utf8 signature ≡ true
-        → words_of (codes "check" ∷ codes "--" ∷ public ∷ file ∷ signature ∷ []) ≡ Some (check_of public file signature) }
+        → words_of (codes "check" ∷ codes "--" ∷ public ∷ file ∷ signature ∷ [])
+        ≡ Some (check_of public file signature) }
     ensures fourth { (public file signature fourth : List ℕ) (rest : List (List ℕ))
         → IsPlain public → IsPlain file → IsPlain signature → IsPlain fourth
         → words_of (codes "check" ∷ public ∷ file ∷ signature ∷ fourth ∷ rest) ≡ None }

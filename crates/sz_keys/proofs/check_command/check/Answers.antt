@@ -15,7 +15,8 @@ returns g c =
       may =
           may_answer (paths_of c.args.paths.now) told (files c.read_front-2.new.folder) c.as_slice.result.now c.as_slice-2.result.now c.in_ok-size.size
           c.check_file.result third (rw (← c.as_slice.ensures) at c.in_ok-public.ensures.front) (rw first at c.in_ok-size.ensures.size)
-          (rw (second, ← c.as_slice-2.ensures) at c.in_ok-signature.ensures.front) c.check_file.ensures.rule c.check_file.ensures.signed c.check_file.ensures.failed;
+          (rw (second, ← c.as_slice-2.ensures) at c.in_ok-signature.ensures.front)
+          c.check_file.ensures.rule c.check_file.ensures.signed c.check_file.ensures.failed;
       unchanged = search rules;
       cause = grind (arith, common_steps);
     }

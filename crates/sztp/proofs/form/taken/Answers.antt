@@ -5,7 +5,8 @@ use Rattle.sztp.proofs.form.taken.Goals as goal
 
 pub returns-in-Ok : goal.returns-in-Ok
 returns-in-Ok c =
-    taken_ok (app_of c.args.form) (map (λ text. text.now) c.args.texts.now) c.in-Ok.matches c.requires (c.in-Ok.ensures.kinds c.requires) c.in-Ok.ensures.matches
+    taken_ok (app_of c.args.form) (map (λ text. text.now) c.args.texts.now) c.in-Ok.matches c.requires
+    (c.in-Ok.ensures.kinds c.requires) c.in-Ok.ensures.matches
 
 pub returns : goal.returns
 returns c =
