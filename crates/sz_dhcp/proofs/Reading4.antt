@@ -127,9 +127,11 @@ one_fault4 message kind other place at (in_file cookie own breaks) (too_short sh
 one_fault4 message kind other place at (in_file cookie own breaks) (no_cookie long missing) = absurd (missing cookie.cookie)
 one_fault4 message kind other place at (in_file {options = options} cookie own breaks) (in_options {place = last} again second) =
     absurd (field_or_break (options_field message) options last own second)
-one_fault4 message kind other place at (in_file {place = first} {options = options} cookie own breaks) (in_file {place = last} {options = others} again second_own second) =
+one_fault4 message kind other place at (in_file {place = first} {options = options} cookie own breaks)
+    (in_file {place = last} {options = others} again second_own second) =
     (refl, ap (λ (n : ℕ). 108 + n) (one_break_in_file message options others first last own second_own breaks second))
-one_fault4 message kind other place at (in_file {place = first} {options = options} cookie own breaks) (in_sname {options = others} {file = file} again second_own second_file second) =
+one_fault4 message kind other place at (in_file {place = first} {options = options} cookie own breaks)
+    (in_sname {options = others} {file = file} again second_own second_file second) =
     absurd (not_in_file message options others file first own second_own breaks second_file)
 one_fault4 message kind other place at (in_file {place = first} {options = options} cookie own breaks) (in_list {options = others} {file = file} has second) =
     absurd (not_in_file message options others file first own has.own breaks has.in_file)
@@ -137,21 +139,27 @@ one_fault4 message kind other place at (in_sname cookie own file breaks) (too_sh
 one_fault4 message kind other place at (in_sname cookie own file breaks) (no_cookie long missing) = absurd (missing cookie.cookie)
 one_fault4 message kind other place at (in_sname {options = options} cookie own file breaks) (in_options {place = last} again second) =
     absurd (field_or_break (options_field message) options last own second)
-one_fault4 message kind other place at (in_sname {options = options} {file = file} cookie own in_file_are breaks) (in_file {place = last} {options = others} again second_own second) =
+one_fault4 message kind other place at (in_sname {options = options} {file = file} cookie own in_file_are breaks)
+    (in_file {place = last} {options = others} again second_own second) =
     absurd (not_in_file message others options file last second_own own second in_file_are)
-one_fault4 message kind other place at (in_sname {place = first} {options = options} cookie own file breaks) (in_sname {place = last} {options = others} again second_own second_file second) =
+one_fault4 message kind other place at (in_sname {place = first} {options = options} cookie own file breaks)
+    (in_sname {place = last} {options = others} again second_own second_file second) =
     (refl, ap (λ (n : ℕ). 44 + n) (one_break_in_sname message options others first last own second_own breaks second))
-one_fault4 message kind other place at (in_sname {place = first} {options = options} cookie own file breaks) (in_list {options = others} {sname = sname} has second) =
+one_fault4 message kind other place at (in_sname {place = first} {options = options} cookie own file breaks)
+    (in_list {options = others} {sname = sname} has second) =
     absurd (not_in_sname message options others sname first own has.own breaks has.in_sname)
 one_fault4 message kind other place at (in_list has breaks) (too_short short) = absurd (omega (arith, has.cookie.long))
 one_fault4 message kind other place at (in_list has breaks) (no_cookie long missing) = absurd (missing has.cookie.cookie)
 one_fault4 message kind other place at (in_list {options = options} has breaks) (in_options {place = last} again second) =
     absurd (field_or_break (options_field message) options last has.own second)
-one_fault4 message kind other place at (in_list {options = options} {file = file} has breaks) (in_file {place = last} {options = others} again second_own second) =
+one_fault4 message kind other place at (in_list {options = options} {file = file} has breaks)
+    (in_file {place = last} {options = others} again second_own second) =
     absurd (not_in_file message others options file last second_own has.own second has.in_file)
-one_fault4 message kind other place at (in_list {options = options} {sname = sname} has breaks) (in_sname {place = last} {options = others} again second_own second_file second) =
+one_fault4 message kind other place at (in_list {options = options} {sname = sname} has breaks)
+    (in_sname {place = last} {options = others} again second_own second_file second) =
     absurd (not_in_sname message others options sname last second_own has.own second has.in_sname)
-one_fault4 message kind other place at (in_list {options = options} {file = file} {sname = sname} has breaks) (in_list {options = others} {file = other_file} {sname = other_sname} second_has second) =
+one_fault4 message kind other place at (in_list {options = options} {file = file} {sname = sname} has breaks)
+    (in_list {options = others} {file = other_file} {sname = other_sname} second_has second) =
     let lists = same_list message options others file other_file sname other_sname has second_has in
     let first = rw lists at breaks in
     (refl, one_list_break (server_list others other_file other_sname) place at first second)

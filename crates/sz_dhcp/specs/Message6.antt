@@ -24,7 +24,8 @@ GivesTargets option targets =
     MatchBool (option.code == SZTP_REDIRECT) (ListsTargets option.value targets) (targets ≡ [])
 
 -- the options at the front of a message, which give these targets, and what follows them
-pub record BeginsWithOptions (message : List ℕ) (options : List DhcpOption) (targets : List Target) (front rest : List ℕ) : Type 0 where
+pub record BeginsWithOptions (message : List ℕ) (options : List DhcpOption) (targets : List Target)
+    (front rest : List ℕ) : Type 0 where
   pub long : HEADER ≤ length message
   pub joined : options_field message ≡ front ++ rest
   pub spelled : Joined IsOption options front

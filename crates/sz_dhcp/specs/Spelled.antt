@@ -12,7 +12,8 @@ Joined {A} {B} StandsFor (item ∷ items) whole =
     (own : List B) × (others : List B) × (whole ≡ own ++ others) × StandsFor item own × Joined StandsFor items others
 
 -- the bytes are spelled as this item, and then the rest
-pub record BeginsWith {A : Type 0} (IsSpelled : A → List ℕ → Type 0) (bytes : List ℕ) (item : A) (rest : List ℕ) : Type 0 where
+pub record BeginsWith {A : Type 0} (IsSpelled : A → List ℕ → Type 0) (bytes : List ℕ) (item : A)
+    (rest : List ℕ) : Type 0 where
   pub own : List ℕ
   pub spelled : IsSpelled item own
   pub joined : bytes ≡ own ++ rest

@@ -1,6 +1,6 @@
 //! The reader of DHCPv4 messages.
 
-ghost use Rattle.std.specs.Prelude.{◌≡◌, ◌==◌, ◌+◌, ◌≤◌, ℕ, List, [], ◌∷◌, ◌++◌, length, IfOk, OnOk, IfErr, IfSome, IfNone, if◌then◌else◌, slice_range};
+ghost use Rattle.std.specs.Prelude.{◌≡◌, ◌==◌, ◌+◌, ◌≤◌, List, [], ◌∷◌, ◌++◌, length, IfOk, OnOk, IfErr, IfSome, IfNone, if◌then◌else◌, slice_range};
 ghost use Rattle.sz_dhcp.specs.DhcpOption.{DhcpOption};
 ghost use Rattle.sz_dhcp.specs.Fault.{IsFault};
 ghost use Rattle.sz_dhcp.specs.Message4.{Gives4, HasCookie, HasOptions, holds_options, IsEnd, IsField, IsFault4, IsFieldFault, IsOption, IsUnfinishedValue, options_field, server_list, values_of};

@@ -1,8 +1,7 @@
 //! The reader of DHCPv6 messages.
 
-ghost use Rattle.std.specs.Prelude.{◌≡◌, ◌≢◌, ◌+◌, ◌≤◌, ℕ, List, [], ◌++◌, length, IfOk, OnOk, IfErr, IfSome, IfNone};
+ghost use Rattle.std.specs.Prelude.{◌≡◌, ◌≢◌, ◌+◌, ◌≤◌, List, [], ◌++◌, length, IfOk, OnOk, IfErr, IfSome, IfNone};
 ghost use Rattle.sz_base.specs.declared.target.Target.{Target};
-ghost use Rattle.sz_dhcp.specs.DhcpOption.{DhcpOption};
 ghost use Rattle.sz_dhcp.specs.Fault.{IsFault};
 ghost use Rattle.sz_dhcp.specs.Message6.{Gives6, GivesTargets, IsFault6, IsOption};
 ghost use Rattle.sz_dhcp.specs.Spelled.{BeginsWith, EndsInside};

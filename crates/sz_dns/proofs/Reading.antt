@@ -181,14 +181,16 @@ pub one_fault : (message domain : List ℕ) (kind other : DnsKind) (place at : �
     → IsFault message domain other at → Same kind other place at
 one_fault message domain kind other place at (in_header a) (in_header b) = (refl, refl)
 one_fault message domain kind other place at (in_header a) (in_question read left header few questions fault) = absurd (omega (arith, header.long))
-one_fault message domain kind other place at (in_header a) (in_record read middle left candidates header questions few records fault) = absurd (omega (arith, header.long))
+one_fault message domain kind other place at (in_header a) (in_record read middle left candidates header questions few records fault) =
+    absurd (omega (arith, header.long))
 one_fault message domain kind other place at (in_question read left header few questions fault) (in_header b) = absurd (omega (arith, header.long))
 one_fault message domain kind other place at (in_question read left header few questions fault) (in_question second behind again less others wrong) =
     one_in_questions message read second (drop HEADER message) left behind kind other questions others fault wrong
 one_fault message domain kind other place at (in_question read left header few questions fault)
     (in_record further middle behind candidates again others less records wrong) =
     absurd (questions_or_fault message read (question_count message) (drop HEADER message) left middle kind few questions others fault)
-one_fault message domain kind other place at (in_record read middle left candidates header questions few records fault) (in_header b) = absurd (omega (arith, header.long))
+one_fault message domain kind other place at (in_record read middle left candidates header questions few records fault) (in_header b) =
+    absurd (omega (arith, header.long))
 one_fault message domain kind other place at (in_record further middle behind candidates header questions few records fault)
     (in_question read left again less others wrong) =
     absurd (questions_or_fault message read (question_count message) (drop HEADER message) left middle other less others questions wrong)

@@ -60,7 +60,10 @@ is_host labels = not (length (dotted labels) == 0) && list_all (list_all is_host
 abbrev pub candidates_of : Service → List Candidate
 candidates_of service =
     if not (service.port == 0) && is_host service.target
-    then record { priority = service.priority; target = record { host = dotted service.target; port = service.port } } ∷ []
+    then record {
+      priority = service.priority;
+      target = record { host = dotted service.target; port = service.port };
+    } ∷ []
     else []
 
 -- a record that counts gives the candidate of its service, and any other gives nothing

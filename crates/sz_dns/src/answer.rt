@@ -1,6 +1,6 @@
 //! The reader of a message.
 
-ghost use Rattle.std.specs.Prelude.{◌≡◌, ◌+◌, ◌-◌, ◌<◌, ◌≤◌, ℕ, List, [], ◌++◌, length, IfOk, OnOk, IfErr};
+ghost use Rattle.std.specs.Prelude.{◌≡◌, ◌+◌, ◌-◌, ◌<◌, ◌≤◌, ℕ, List, length, IfOk, IfErr};
 ghost use Rattle.sz_dns.specs.Answer.{AreQuestions, AreRecords, Gives, IsFault, IsItemFault};
 ghost use Rattle.sz_dns.specs.Fault.{Tells};
 ghost use Rattle.sz_dns.specs.Record.{IsQuestionFault};
@@ -17,11 +17,11 @@ use sz_base::{Items, Targets};
 const HEADER: usize = 12;
 
 /// The targets of the SRV records for `_sztp._tcp` under the domain in the message's answer section, by priority and
-/// then in the order of the records; weights are not used. A message with an error in its header gives none. A target of
-/// the root, with port 0 or with bytes other than letters, digits, `-` and `_` in a label is passed over. `Short` where
-/// the message ends inside its header, a question or a record, also where a pointer leads past its end, or a record's
-/// data end inside their fields, at that part; `Pointer` where a name has more than 255 bytes or 127 pointers, and
-/// `Label` where it has a label of an unknown kind, at that name.
+/// then in the order of the records; weights are not used. A message with an error in its header gives none. A target
+/// of the root, with port 0 or with bytes other than letters, digits, `-` and `_` in a label is passed over. `Short`
+/// where the message ends inside its header, a question or a record, also where a pointer leads past its end, or a
+/// record's data end inside their fields, at that part; `Pointer` where a name has more than 255 bytes or 127 pointers,
+/// and `Label` where it has a label of an unknown kind, at that name.
 pub fn targets(alloc: Global, answer: &[u8], domain: &[u8]) -> Result<Targets, DnsFault>
     ensures ok { IfOk result (Gives answer.now domain.now) }
     ensures refused { IfErr result (Tells (IsFault answer.now domain.now)) }

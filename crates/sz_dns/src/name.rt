@@ -1,6 +1,6 @@
 //! Domain names, through the pointers of a message.
 
-ghost use Rattle.std.specs.Prelude.{◌≡◌, ◌+◌, ◌-◌, ◌*◌, ◌<◌, ◌≤◌, ℕ, List, [], ◌∷◌, ◌++◌, length, drop, Some, None, IfOk, IfErr};
+ghost use Rattle.std.specs.Prelude.{◌≡◌, ◌+◌, ◌-◌, ◌*◌, ◌<◌, ◌≤◌, length, drop, Some, None, IfOk, IfErr};
 ghost use Rattle.sz_dns.specs.Fault.{Tells};
 ghost use Rattle.sz_dns.specs.Name.{front_fault, IsName, IsNameFault};
 ghost use Rattle.sz_dns.specs.Part.{IsPart, place_of_kind};

@@ -1,8 +1,7 @@
 //! Questions and resource records.
 
-ghost use Rattle.std.specs.Prelude.{◌≡◌, ◌+◌, ◌-◌, ◌*◌, ◌<◌, ◌≤◌, ℕ, List, [], ◌∷◌, ◌++◌, length, IfOk, IfErr, IfSome, IfNone};
+ghost use Rattle.std.specs.Prelude.{◌≡◌, ◌+◌, ◌-◌, ◌*◌, ◌<◌, ◌≤◌, ℕ, List, ◌++◌, length, IfOk, IfErr, IfSome, IfNone};
 ghost use Rattle.sz_dns.specs.Fault.{Tells};
-ghost use Rattle.sz_dns.specs.Name.{IsName, IsNameFault};
 ghost use Rattle.sz_dns.specs.Record.{AreFields, EndsInsideFields, IsQuestion, IsQuestionFault, IsRecord, IsRecordFault, record_of};
 
 use crate::name::{Places, read_name};

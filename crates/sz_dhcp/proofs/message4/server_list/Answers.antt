@@ -35,7 +35,8 @@ returns-in_err-append_values-clause-refused c =
     let own = c.in_ok-overload.ensures.ok in
     let options = rw ok.1 at own.1 in
     let is : c.holding-file.result.bytes.now ≡ file_field own.0 c.args.message.now =
-    field_is FILE c.args.message.now c.holding-file.result.bytes.now c.as_slice.result.now own.0 108 236 (c.as_slice.ensures ∙ own.2) c.holding-file.ensures.bytes in
+    field_is FILE c.args.message.now c.holding-file.result.bytes.now c.as_slice.result.now own.0 108 236
+    (c.as_slice.ensures ∙ own.2) c.holding-file.ensures.bytes in
     let there = rw (is, c.holding-file.ensures.end) at c.in_err-append_values.ensures.refused in
     let p = err_from_is_err_and c.from_residual-in_err-append_values.result c.from_residual-in_err-append_values.ensures.1 in
     rw (p.1, p.2) (fault_in_file c.args.message.now _ own.0 ok.0 options there)
@@ -47,9 +48,11 @@ returns-in_err-append_values-2-clause-refused c =
     let options = rw ok.1 at own.1 in
     let file = c.in_ok-append_values.ensures.ok in
     let file_is : c.holding-file.result.bytes.now ≡ file_field own.0 c.args.message.now =
-    field_is FILE c.args.message.now c.holding-file.result.bytes.now c.as_slice.result.now own.0 108 236 (c.as_slice.ensures ∙ own.2) c.holding-file.ensures.bytes in
+    field_is FILE c.args.message.now c.holding-file.result.bytes.now c.as_slice.result.now own.0 108 236
+    (c.as_slice.ensures ∙ own.2) c.holding-file.ensures.bytes in
     let is : c.holding-sname.result.bytes.now ≡ sname_field own.0 c.args.message.now =
-    field_is SNAME c.args.message.now c.holding-sname.result.bytes.now c.as_slice-2.result.now own.0 44 108 (c.as_slice-2.ensures ∙ own.2) c.holding-sname.ensures.bytes in
+    field_is SNAME c.args.message.now c.holding-sname.result.bytes.now c.as_slice-2.result.now own.0 44 108
+    (c.as_slice-2.ensures ∙ own.2) c.holding-sname.ensures.bytes in
     let in_file = rw file_is at file.1 in
     let there = rw (is, c.holding-sname.ensures.end) at c.in_err-append_values-2.ensures.refused in
     let p = err_from_is_err_and c.from_residual-in_err-append_values-2.result c.from_residual-in_err-append_values-2.ensures.1 in
@@ -66,9 +69,11 @@ returns-clause-ok c =
     let again = rw ok.1 at list.1 in
     let same = one_field (options_field c.args.message.now) list.0 own.0 again options in
     let file_is : c.holding-file.result.bytes.now ≡ file_field own.0 c.args.message.now =
-    field_is FILE c.args.message.now c.holding-file.result.bytes.now c.as_slice.result.now own.0 108 236 (c.as_slice.ensures ∙ own.2) c.holding-file.ensures.bytes in
+    field_is FILE c.args.message.now c.holding-file.result.bytes.now c.as_slice.result.now own.0 108 236
+    (c.as_slice.ensures ∙ own.2) c.holding-file.ensures.bytes in
     let sname_is : c.holding-sname.result.bytes.now ≡ sname_field own.0 c.args.message.now =
-    field_is SNAME c.args.message.now c.holding-sname.result.bytes.now c.as_slice-2.result.now own.0 44 108 (c.as_slice-2.ensures ∙ own.2) c.holding-sname.ensures.bytes in
+    field_is SNAME c.args.message.now c.holding-sname.result.bytes.now c.as_slice-2.result.now own.0 44 108
+    (c.as_slice-2.ensures ∙ own.2) c.holding-sname.ensures.bytes in
     let in_file = rw file_is at file.1 in
     let in_sname = rw sname_is at sname.1 in (
       own.0,
