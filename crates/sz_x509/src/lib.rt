@@ -12,7 +12,9 @@ mod laws;
 mod parts;
 pub mod tag;
 mod tbs;
+mod writing;
 
 pub use cert::Cert;
 pub use fault::{CertFault, CertKind};
 pub use laws::fault_or_certificate;
+pub use writing::{CertSpec, write_cert, write_tbs};
