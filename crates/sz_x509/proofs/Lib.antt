@@ -8,3 +8,4 @@ pub mod ExtensionLists
 pub mod Restricted
 pub mod Whole
 pub mod OneCertificate
+pub mod WrittenParts

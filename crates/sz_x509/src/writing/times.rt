@@ -18,7 +18,7 @@ pub(crate) fn write_time(alloc: Global, out: &mut DerWriter, seconds: Seconds) -
     requires { IsWritable seconds.0 }
     ensures { OnOk result (Appends (IsWrittenTime seconds.0) out.old out.new) }
 {
-    let date = date_at(seconds);
+    let date = date_at(seconds.0);
     if date.year < 2050 {
         write_utc_time(alloc, out, date)
     } else {
@@ -26,12 +26,12 @@ pub(crate) fn write_time(alloc: Global, out: &mut DerWriter, seconds: Seconds) -
     }
 }
 
-// The date and the time of day at the second.
-fn date_at(seconds: Seconds) -> DateTime
-    requires { IsWritable seconds.0 }
-    ensures { IsFrom1950 seconds.0 (civil_time result) }
+// The date and the time of day at so many seconds since 1970.
+fn date_at(seconds: i64) -> DateTime
+    requires { IsWritable seconds }
+    ensures { IsFrom1950 seconds (civil_time result) }
 {
-    match DateTime::from_unix_seconds(seconds.0) {
+    match DateTime::from_unix_seconds(seconds) {
         Some(date) => date,
         None => unreachable!(),
     }
@@ -42,8 +42,7 @@ fn write_utc_time(alloc: Global, out: &mut DerWriter, date: DateTime) -> Result<
     ensures { OnOk result (AppendsItem out.old out.new UTC_TIME (utc_text (civil_time date))) }
 {
     let mut text = Bytes::create(alloc);
-    push_two(&mut text, (date.year.unsigned_abs() % 100) as u8)?;
-    push_in_year(&mut text, date)?;
+    push_utc_text(&mut text, date)?;
     out.item(UTC_TIME, text.as_slice())?;
     Ok(())
 }
@@ -55,10 +54,17 @@ fn write_generalized_time(alloc: Global, out: &mut DerWriter, date: DateTime) ->
 {
     let mut text = Bytes::create(alloc);
     push_two(&mut text, (date.year.unsigned_abs() / 100) as u8)?;
-    push_two(&mut text, (date.year.unsigned_abs() % 100) as u8)?;
-    push_in_year(&mut text, date)?;
+    push_utc_text(&mut text, date)?;
     out.item(GENERALIZED_TIME, text.as_slice())?;
     Ok(())
+}
+
+// Puts `YYMMDDhhmmssZ` last.
+fn push_utc_text(text: &mut Bytes, date: DateTime) -> Result<(), OutOfMemory>
+    ensures { OnOk result (text.new ≡ text.old ++ utc_text (civil_time date)) }
+{
+    push_two(text, (date.year.unsigned_abs() % 100) as u8)?;
+    push_in_year(text, date)
 }
 
 // Puts `MMDDhhmmssZ` last.
