@@ -9,3 +9,4 @@ pub mod Restricted
 pub mod Whole
 pub mod OneCertificate
 pub mod WrittenParts
+pub mod WrittenLaw

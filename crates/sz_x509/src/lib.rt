@@ -17,4 +17,4 @@ mod writing;
 pub use cert::Cert;
 pub use fault::{CertFault, CertKind};
 pub use laws::fault_or_certificate;
-pub use writing::{CertSpec, write_cert, write_tbs};
+pub use writing::{CertSpec, is_writable, write_cert, write_tbs};

@@ -16,6 +16,8 @@ use sz_der::DerWriter;
 use sz_der::tag::{CONTEXT_CONSTRUCTED, INTEGER, SEQUENCE};
 use times::write_time;
 
+pub use times::is_writable;
+
 /// What a certificate is to say.
 #[derive(Debug, Drop)]
 pub struct CertSpec {

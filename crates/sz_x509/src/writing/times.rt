@@ -1,6 +1,6 @@
 //! The writer of times (RFC 5280 section 4.1.2.5).
 
-ghost use Rattle.std.specs.Prelude.{◌≡◌, ◌++◌, OnOk};
+ghost use Rattle.std.specs.Prelude.{◌≡◌, ◌↔◌, ◌++◌, IsTrue, OnOk};
 ghost use Rattle.sz_calendar.specs.CivilTime.{IsReal};
 ghost use Rattle.sz_calendar.specs.DateTime.{civil_time};
 ghost use Rattle.sz_der.specs.Items.{AppendsItem};
@@ -12,6 +12,16 @@ use sz_base::{Bytes, OutOfMemory, Seconds};
 use sz_calendar::DateTime;
 use sz_der::DerWriter;
 use sz_der::tag::{GENERALIZED_TIME, UTC_TIME};
+
+/// The second lies in the years 1950 to 9999, whose times are written.
+pub fn is_writable(seconds: Seconds) -> bool
+    ensures { IsTrue result ↔ IsWritable seconds.0 }
+{
+    match DateTime::from_unix_seconds(seconds.0) {
+        Some(date) => date.year >= 1950,
+        None => false,
+    }
+}
 
 /// Puts a time last: through the year 2049 as a UTCTime, and from 2050 on as a GeneralizedTime.
 pub(crate) fn write_time(alloc: Global, out: &mut DerWriter, seconds: Seconds) -> Result<(), OutOfMemory>
