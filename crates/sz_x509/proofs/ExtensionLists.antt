@@ -201,7 +201,7 @@ covers_more earlier spot identifier covers other none same =
     let apart = list_any-append (λ there. bytes_eq (identifier_at there) other) earlier (spot ∷ []) in
     covers other (or_parts _ _ (sym apart ∙ none)).0 same
 
-new_of : (earlier : List Spot) (spot : Spot) → extension_fault earlier spot ≡ None → stands_among earlier (identifier_at spot) ≡ false
+pub new_of : (earlier : List Spot) (spot : Spot) → extension_fault earlier spot ≡ None → stands_among earlier (identifier_at spot) ≡ false
 unfolding extension_fault
 new_of earlier spot n =
     let a = parts_of_none _ _ n in

@@ -6,6 +6,8 @@ pub mod Spelled
 pub mod Chains
 pub mod ExtensionLists
 pub mod Restricted
+pub mod Walking
+pub mod Adding
 pub mod Whole
 pub mod OneCertificate
 pub mod WrittenParts

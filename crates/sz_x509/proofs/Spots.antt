@@ -1,6 +1,7 @@
 -- What stands at a spot without a fault, and that no fault is where an item stands.
 use Rattle.std.proofs.Common.{◌≡◌, ℕ, zero, suc, ◌+◌, ◌≤◌, Bool, true, false, List, [], ◌∷◌, ◌++◌, length, take, drop, Option, Some, None, refl, sym, ap, subst, ◌∙◌, arith, inl, inr}
 use Rattle.std.specs.Prelude.{◌==◌, is_some, not}
+use Rattle.std.specs.List.{AllByRecursion}
 use Rattle.std.proofs.lemmas.Bool.{eqb-true, eq-eqb, ne_eqb, cases_Bool}
 use Rattle.std.proofs.lemmas.List.{append-nil, take-append-drop, drop_at, length-take-le}
 use Rattle.sz_der.specs.Der.{AreOctets, Der}
@@ -19,6 +20,10 @@ use Rattle.sz_x509.specs.declared.fault.CertKind.TheVariants as kinds
 pub parts_of_none : {A : Type 0} (one later : Option A) → or_later one later ≡ None → (one ≡ None) × (later ≡ None)
 parts_of_none None later e = (refl, e)
 parts_of_none (Some fault) later e = absurd cc
+
+pub all_none : {A : Type 0} (rules : List (Option A)) → first_of rules ≡ None → AllByRecursion (λ rule. rule ≡ None) rules
+all_none [] e = tt
+all_none (one ∷ rules) e = let parts = parts_of_none one (first_of rules) e in (parts.0, all_none rules parts.1)
 
 -- a rule that is not broken holds
 pub holds_from_rule : {K : Type 0} (holds : Bool) (kind : K) (spot : Spot) → rule holds kind spot ≡ None → holds ≡ true
@@ -61,7 +66,7 @@ fault-none : (fault : Option DerKind) → not (is_some fault) ≡ true → fault
 fault-none None e = refl
 fault-none (Some kind) e = absurd cc
 
-no_fault_there : {K : Type 0} (kind : K) (spot : Spot) → no_item kind spot ≡ None → fault_of spot.left ≡ None
+pub no_fault_there : {K : Type 0} (kind : K) (spot : Spot) → no_item kind spot ≡ None → fault_of spot.left ≡ None
 unfolding no_item
 no_fault_there kind spot e = fault-none (fault_of spot.left) (holds_from_rule (not (is_some (fault_of spot.left))) kind spot e)
 

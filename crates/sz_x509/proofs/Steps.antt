@@ -9,7 +9,7 @@ use Rattle.sz_der.specs.declared.fault.DerFault.{DerFault}
 use Rattle.sz_der.specs.declared.item.Item.{Item}
 use Rattle.sz_der.specs.declared.reader.DerReader.{DerReader}
 use Rattle.sz_x509.specs.CertFault.{Fault, part}
-use Rattle.sz_x509.specs.Parts.{after, content_at, inside, is_at_end, is_next, IsItemAt, no_item, no_part, place_at, rule, Spot, spot_of, tag_at, whole_at}
+use Rattle.sz_x509.specs.Parts.{after, content_at, front, inside, is_at_end, is_next, IsItemAt, no_item, no_part, place_at, rule, Spot, spot_of, tag_at, whole_at}
 use Rattle.sz_x509.specs.View.{at}
 use Rattle.sz_x509.specs.declared.fault.CertFault.{CertFault}
 use Rattle.sz_x509.specs.declared.fault.CertKind.{CertKind}
@@ -136,3 +136,8 @@ no_next_byte reader tag e = no_byte reader.left.now (spot_of reader) tag refl e
 pub same_content : (spot : Spot) (item : Item) (other given : List ℕ) → IsItemAt spot item → given ≡ other →
     bytes_eq (content_at spot) other ≡ bytes_eq item.content.now given
 same_content spot item other given is same = rw (same, is.content) refl
+
+-- a reader over all bytes
+pub outer_at : (bytes : List ℕ) (reader : DerReader) → reader.left.now ≡ bytes → reader.end ≡ length bytes → spot_of reader ≡ front bytes
+unfolding spot_of front
+outer_at bytes reader left end = rw (left, end) refl

@@ -69,7 +69,6 @@ year_number (negsuc n) from = absurd (omega (arith, ints))
 digits : (n : ℕ) → (48 + n / 10 - 48) * 10 + (48 + n % 10 - 48) ≡ n
 digits n = omega arith
 
-
 utc_parts : (y month day hour minute second : ℕ) (text : List ℕ) → text ≡ two_digits y ++ in_year month day hour minute second →
     (digits_at text 0 ≡ y) × (digits_at text 2 ≡ month) × (digits_at text 4 ≡ day) × (digits_at text 6 ≡ hour) × (digits_at text 8 ≡ minute)
     × (digits_at text 10 ≡ second)

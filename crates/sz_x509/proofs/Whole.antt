@@ -19,11 +19,11 @@ use Rattle.sz_x509.proofs.Restricted.{each_value_is_clear, places_from_restrict,
 
 -- ---- the field of extensions
 
-spots_next : (field : Spot) → is_next EXTENSIONS field ≡ true → extension_spots field ≡ spots_from (inside (inside field))
+pub spots_next : (field : Spot) → is_next EXTENSIONS field ≡ true → extension_spots field ≡ spots_from (inside (inside field))
 unfolding extension_spots
 spots_next field next = rw next refl
 
-spots_other : (field : Spot) → is_next EXTENSIONS field ≡ false → extension_spots field ≡ []
+pub spots_other : (field : Spot) → is_next EXTENSIONS field ≡ false → extension_spots field ≡ []
 unfolding extension_spots
 spots_other field other = rw other refl
 
@@ -246,7 +246,7 @@ CertOf_from_none bytes fields fits n at =
       is_algorithm = algorithm.0;
       is_signature = rw at.signature signature.0;
       is_sequence = subst (λ (x : List ℕ). Der SEQUENCE (fields.tbs
-      ++ (whole_at (after (inside (front bytes))) ++ whole_at (after (after (inside (front bytes)))))) x) (sym whole) (rw at.tbs item);
+          ++ (whole_at (after (inside (front bytes))) ++ whole_at (after (after (inside (front bytes)))))) x) (sym whole) (rw at.tbs item);
     }
 
 pub cert_clear : (bytes : List ℕ) (fields : Certificate) → CertOf bytes fields → (cert_fault bytes ≡ None) × FieldsAt bytes fields

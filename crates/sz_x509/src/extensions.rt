@@ -8,10 +8,12 @@ ghost use Rattle.sz_x509.specs.Parts.{after, after_optional, content_at, inside,
 ghost use Rattle.sz_x509.specs.View.{at, extensions_of};
 
 use crate::identifier::{
-    AUTHORITY_KEY_IDENTIFIER, BASIC_CONSTRAINTS, CERTIFICATE_POLICIES, EXTENDED_KEY_USAGE, KEY_USAGE,
-    SUBJECT_ALT_NAME, SUBJECT_KEY_IDENTIFIER,
+    AUTHORITY_KEY_IDENTIFIER, BASIC_CONSTRAINTS, CERTIFICATE_POLICIES, EXTENDED_KEY_USAGE,
+    KEY_USAGE, SUBJECT_ALT_NAME, SUBJECT_KEY_IDENTIFIER,
 };
-use crate::parts::{expect_end, fault_of, is_next, open_part, parts_of, take_flag, take_item, take_part};
+use crate::parts::{
+    expect_end, fault_of, is_next, octets_fit, open_part, parts_of, take_flag, take_item, take_part,
+};
 use crate::tag::EXTENSIONS;
 use crate::{CertFault, CertKind};
 use sz_der::tag::{BIT_STRING, INTEGER, OBJECT_IDENTIFIER, OCTET_STRING, SEQUENCE};
@@ -192,6 +194,7 @@ fn take_path_length(reader: &mut DerReader<'_>) -> Result<Option<u32>, CertFault
         return Ok(None);
     }
     let item = take_item(reader)?;
+    octets_fit(item.content);
     match integer_u32(&item) {
         Ok(Some(path_len)) => Ok(Some(path_len)),
         Ok(None) => Err(fault_of(&item, CertKind::Extension)),

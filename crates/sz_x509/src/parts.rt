@@ -1,6 +1,7 @@
 //! Steps of a reader of parts: each takes what has to stand next, or answers the fault of that.
 
 ghost use Rattle.std.specs.Prelude.{◌≡◌, None, Some, IfOk, IfErr, OnOk};
+ghost use Rattle.sz_der.specs.Der.{AreOctets};
 ghost use Rattle.sz_x509.specs.CertFault.{algorithm_fault, end, flag_at, flag_fault, integer_fault, octets_at, octets_fault, part, time_fault};
 ghost use Rattle.sz_x509.specs.CertPlaces.{seconds_at};
 ghost use Rattle.sz_x509.specs.Parts.{after, after_optional, content_at, inside, IsItemAt, is_next, no_item, place_at, Spot, spot_of};
@@ -29,7 +30,11 @@ pub(crate) fn take_item<'a>(reader: &mut DerReader<'a>) -> Result<Item<'a>, Cert
 }
 
 /// Takes the next item, which has to have this tag; of another one the fault is of the kind `other`.
-pub(crate) fn take_part<'a>(reader: &mut DerReader<'a>, tag: u8, other: CertKind) -> Result<Item<'a>, CertFault>
+pub(crate) fn take_part<'a>(
+    reader: &mut DerReader<'a>,
+    tag: u8,
+    other: CertKind,
+) -> Result<Item<'a>, CertFault>
     ensures ok { OnOk result (part other tag (spot_of reader.old) ≡ None) }
     ensures item { IfOk result (IsItemAt (spot_of reader.old)) }
     ensures next { OnOk result (spot_of reader.new ≡ after (spot_of reader.old)) }
@@ -81,6 +86,13 @@ pub(crate) fn is_next(reader: &DerReader<'_>, tag: u8) -> bool
     }
 }
 
+/// Bytes are octets, which proofs take from here.
+pub(crate) fn octets_fit(bytes: &[u8])
+    ensures { AreOctets bytes.now }
+{
+    let _bytes = bytes;
+}
+
 /// A reader of what the item holds.
 pub(crate) fn parts_of<'a>(item: &Item<'a>) -> DerReader<'a>
     ensures { (spot : Spot) → IsItemAt spot item.now → spot_of result ≡ inside spot }
@@ -113,7 +125,10 @@ pub(crate) fn take_integer<'a>(reader: &mut DerReader<'a>) -> Result<&'a [u8], C
 }
 
 /// Takes a BIT STRING of whole octets, and answers these; of another tag the fault is of the kind `other`.
-pub(crate) fn take_octets<'a>(reader: &mut DerReader<'a>, other: CertKind) -> Result<(Item<'a>, &'a [u8]), CertFault>
+pub(crate) fn take_octets<'a>(
+    reader: &mut DerReader<'a>,
+    other: CertKind,
+) -> Result<(Item<'a>, &'a [u8]), CertFault>
     ensures ok { OnOk result (octets_fault other (spot_of reader.old) ≡ None) }
     ensures item { IfOk result (λ taken. IsItemAt (spot_of reader.old) taken.0) }
     ensures octets { IfOk result (λ taken. taken.1.now ≡ octets_at (spot_of reader.old)) }

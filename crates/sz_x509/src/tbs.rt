@@ -8,8 +8,8 @@ ghost use Rattle.sz_x509.specs.View.{at, fields_of};
 
 use crate::extensions::{Restrictions, take_extensions};
 use crate::parts::{
-    expect_end, fault_of, is_next, open_part, take_algorithm, take_integer, take_item, take_octets, take_part,
-    take_time,
+    expect_end, fault_of, is_next, open_part, take_algorithm, take_integer, take_item, take_octets,
+    take_part, take_time,
 };
 use crate::tag::{ISSUER_UNIQUE_ID, SUBJECT_UNIQUE_ID};
 use crate::{CertFault, CertKind};
@@ -65,6 +65,9 @@ pub(crate) fn read_tbs<'a>(first: &DerReader<'a>) -> Result<Tbs<'a>, CertFault>
     })
 }
 
+/// The INTEGER of version 3 (RFC 5280 section 4.1.2.1).
+const VERSION_3: [u8; 1] = [2];
+
 // Takes `[0]` with version 3.
 fn take_version(reader: &mut DerReader<'_>) -> Result<(), CertFault>
     ensures ok { OnOk result (version_fault (spot_of reader.old) ≡ None) }
@@ -73,11 +76,13 @@ fn take_version(reader: &mut DerReader<'_>) -> Result<(), CertFault>
 {
     let mut parts = open_part(reader, CONTEXT_CONSTRUCTED, CertKind::Version)?;
     let version = take_part(&mut parts, INTEGER, CertKind::Version)?;
-    match integer(&version) {
-        Ok([2]) => expect_end(&parts, CertKind::Version),
-        Ok(_) => Err(fault_of(&version, CertKind::Version)),
-        Err(_) => Err(fault_of(&version, CertKind::Der)),
+    let Ok(octets) = integer(&version) else {
+        return Err(fault_of(&version, CertKind::Der));
+    };
+    if octets != VERSION_3.as_slice() {
+        return Err(fault_of(&version, CertKind::Version));
     }
+    expect_end(&parts, CertKind::Version)
 }
 
 // Takes the first and the last second of validity.

@@ -1,9 +1,10 @@
-use Rattle.std.proofs.Common.{◌≡◌, ℕ, List, true, false, Some, refl, sym, ap, ◌∙◌}
+use Rattle.std.proofs.Common.{◌≡◌, true, false, None, Some, refl, sym, ap, ◌∙◌}
 use Rattle.std.specs.Prelude.{bytes_eq}
 use Rattle.std.proofs.lemmas.Bool.{not-false, not-true}
 use Rattle.std.proofs.lemmas.Result.{MatchResult-weaker, on_ok_weaker}
-use Rattle.sz_x509.specs.CertFault.{algorithm_fault, Fault}
+use Rattle.sz_x509.specs.CertFault.{algorithm_fault, end, Fault}
 use Rattle.sz_x509.specs.Parts.{content_at, spot_of}
+use Rattle.sz_x509.specs.declared.fault.CertKind.TheVariants as kinds
 use Rattle.sz_x509.specs.declared.identifier.TheConstants.{HSS_LMS}
 use Rattle.sz_x509.proofs.Steps.{exit, same_content}
 use Rattle.sz_x509.proofs.parts.take_algorithm.Goals as goal
@@ -36,7 +37,7 @@ returns-clause-ok c =
     let test : bytes_eq (content_at (spot_of c.in_ok-parts.parts)) HSS_LMS ≡ true =
     same_content (spot_of c.in_ok-parts.parts) c.in_ok-identifier.identifier HSS_LMS c.as_slice.result.now is c.as_slice.ensures
     ∙ not-false _ (sym c.if-ne.ensures) in
-    on_ok_weaker c.expect_end.result (λ e. rw (
+    on_ok_weaker c.expect_end.result (λ (e : end kinds.Algorithm (spot_of c.take_part.new.reader) ≡ None). rw (
       c.in_ok-parts.ensures.ok,
       ← c.in_ok-parts.ensures.inside,
       c.in_ok-identifier.ensures.ok,

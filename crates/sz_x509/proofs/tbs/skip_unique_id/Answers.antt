@@ -1,26 +1,26 @@
-use Rattle.std.proofs.Common.{rules, ◌≡◌, true, false, None, Some, IfOk, IfErr, IfNone, IfSome, OnOk, ℕ, ◌+◌, ◌-◌, ◌*◌, ◌<◌, ◌≤◌, length, ◌/◌, ◌%◌, Bool, nat_eq, nat_lt, List, [], ◌∷◌, ◌++◌, slice_index_or, slice_set, bit_and, bit_or, Fits, w8, w32, w64, Bor, MutBor}
-use Rattle.sz_x509.specs.CertFault.{holds_key, key_fault, key_in, tbs_parts_fault, unique_id_fault, validity_fault, version_fault}
-use Rattle.sz_x509.specs.CertPlaces.{key_at, seconds_at, TbsAt}
-use Rattle.sz_x509.specs.Parts.{after, after_optional, inside, spot_of}
-use Rattle.sz_x509.specs.View.{at, fields_of}
+use Rattle.std.proofs.Common.{refl, sym, ◌∙◌}
+use Rattle.sz_x509.specs.CertFault.{unique_id_fault}
+use Rattle.sz_x509.specs.Parts.{spot_of}
+use Rattle.sz_x509.proofs.Chains.{after_next, after_other}
+use Rattle.sz_x509.proofs.Steps.{exit}
 use Rattle.sz_x509.proofs.tbs.skip_unique_id.Goals as goal
 
--- src/tbs.rt:137:19
 pub returns-in_err-_id-clause-fault : goal.returns-in_err-_id-clause-fault
-returns-in_err-_id-clause-fault c = ?
+unfolding unique_id_fault
+returns-in_err-_id-clause-fault c =
+    exit _ _ c.in_err-_id.field-0.0 c.from_residual.ensures.1 (rw (sym c.is_next.ensures ∙ c.if-is_next.true, c.in_err-_id.ensures.fault) refl)
 
--- src/tbs.rt:131:1
 pub returns-in_ok-_id-clause-ok : goal.returns-in_ok-_id-clause-ok
-returns-in_ok-_id-clause-ok c = ?
+unfolding unique_id_fault
+returns-in_ok-_id-clause-ok c = rw (sym c.is_next.ensures ∙ c.if-is_next.true, c.in_ok-_id.ensures.ok) refl
 
--- src/tbs.rt:131:1
 pub returns-in_ok-_id-clause-next : goal.returns-in_ok-_id-clause-next
-returns-in_ok-_id-clause-next c = ?
+returns-in_ok-_id-clause-next c =
+    c.in_ok-_id.ensures.next ∙ sym (after_next c.args.tag (spot_of c.args.reader.now) (sym c.is_next.ensures ∙ c.if-is_next.true))
 
--- src/tbs.rt:131:1
 pub returns-else-is_next-clause-ok : goal.returns-else-is_next-clause-ok
-returns-else-is_next-clause-ok c = ?
+unfolding unique_id_fault
+returns-else-is_next-clause-ok c = rw (sym c.is_next.ensures ∙ c.if-is_next.false) refl
 
--- src/tbs.rt:131:1
 pub returns-else-is_next-clause-next : goal.returns-else-is_next-clause-next
-returns-else-is_next-clause-next c = ?
+returns-else-is_next-clause-next c = sym (after_other c.args.tag (spot_of c.args.reader.now) (sym c.is_next.ensures ∙ c.if-is_next.false))

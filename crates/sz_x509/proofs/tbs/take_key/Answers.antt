@@ -1,34 +1,79 @@
-use Rattle.std.proofs.Common.{rules, ◌≡◌, true, false, None, Some, IfOk, IfErr, IfNone, IfSome, OnOk, ℕ, ◌+◌, ◌-◌, ◌*◌, ◌<◌, ◌≤◌, length, ◌/◌, ◌%◌, Bool, nat_eq, nat_lt, List, [], ◌∷◌, ◌++◌, slice_index_or, slice_set, bit_and, bit_or, Fits, w8, w32, w64, Bor, MutBor}
-use Rattle.sz_x509.specs.CertFault.{holds_key, key_fault, key_in, tbs_parts_fault, unique_id_fault, validity_fault, version_fault}
-use Rattle.sz_x509.specs.CertPlaces.{key_at, seconds_at, TbsAt}
-use Rattle.sz_x509.specs.Parts.{after, after_optional, inside, spot_of}
-use Rattle.sz_x509.specs.View.{at, fields_of}
+use Rattle.std.proofs.Common.{Some, ap, refl, sym, ◌∙◌}
+use Rattle.sz_x509.specs.CertFault.{Fault, key_fault, key_in, octets_at}
+use Rattle.sz_x509.specs.CertPlaces.{key_at}
+use Rattle.sz_x509.specs.Parts.{after, Spot, spot_of}
+use Rattle.sz_x509.proofs.Steps.{exit}
 use Rattle.sz_x509.proofs.tbs.take_key.Goals as goal
 
--- src/tbs.rt:105:21
 pub returns-in_err-parts-clause-fault : goal.returns-in_err-parts-clause-fault
-returns-in_err-parts-clause-fault c = ?
+unfolding key_fault
+returns-in_err-parts-clause-fault c =
+    exit _ _ c.in_err-parts.field-0.0 c.from_residual.ensures.1 (rw c.in_err-parts.ensures.fault refl)
 
--- src/tbs.rt:106:5
 pub returns-in_err-take_algorithm-clause-fault : goal.returns-in_err-take_algorithm-clause-fault
-returns-in_err-take_algorithm-clause-fault c = ?
+unfolding key_fault
+returns-in_err-take_algorithm-clause-fault c =
+    exit _ _ c.in_err-take_algorithm.field-0.0 c.from_residual-in_err-take_algorithm.ensures.1
+    (rw (c.in_ok-parts.ensures.ok, ← c.in_ok-parts.ensures.inside, c.in_err-take_algorithm.ensures.fault) refl)
 
--- src/tbs.rt:107:26
 pub returns-in_err-bits-clause-fault : goal.returns-in_err-bits-clause-fault
-returns-in_err-bits-clause-fault c = ?
+unfolding key_fault
+returns-in_err-bits-clause-fault c =
+    exit _ _ c.in_err-bits.field-0.0 c.from_residual-in_err-bits.ensures.1
+    (rw (
+      c.in_ok-parts.ensures.ok,
+      ← c.in_ok-parts.ensures.inside,
+      c.in_ok-take_algorithm.ensures.ok,
+      ← c.in_ok-take_algorithm.ensures.next,
+      c.in_err-bits.ensures.fault,
+    ) refl)
 
--- src/tbs.rt:109:9
 pub returns-in_default-clause-fault : goal.returns-in_default-clause-fault
-returns-in_default-clause-fault c = ?
+unfolding key_fault
+returns-in_default-clause-fault c =
+    rw (
+      c.in_ok-parts.ensures.ok,
+      ← c.in_ok-parts.ensures.inside,
+      c.in_ok-take_algorithm.ensures.ok,
+      ← c.in_ok-take_algorithm.ensures.next,
+      c.in_ok-bits.ensures.ok,
+      ← c.in_ok-bits.ensures.octets,
+      c.in_default.ensures.none,
+    ) (ap (λ (x : Fault). Some x) (sym (c.fault_of.ensures (spot_of c.take_algorithm.new.reader) c.in_ok-bits.ensures.item)))
 
--- src/tbs.rt:111:5
 pub returns-in_err-expect_end-clause-fault : goal.returns-in_err-expect_end-clause-fault
-returns-in_err-expect_end-clause-fault c = ?
+unfolding key_fault
+returns-in_err-expect_end-clause-fault c =
+    exit _ _ c.in_err-expect_end.field-0.0 c.from_residual-in_err-expect_end.ensures.1
+    (rw (
+      c.in_ok-parts.ensures.ok,
+      ← c.in_ok-parts.ensures.inside,
+      c.in_ok-take_algorithm.ensures.ok,
+      ← c.in_ok-take_algorithm.ensures.next,
+      c.in_ok-bits.ensures.ok,
+      ← c.in_ok-bits.ensures.octets,
+      c.in-Some.ensures.some.0,
+      ← c.in_ok-bits.ensures.next,
+      c.in_err-expect_end.ensures.fault,
+    ) refl)
 
--- src/tbs.rt:99:1
 pub returns-clause-ok : goal.returns-clause-ok
-returns-clause-ok c = ?
+unfolding key_fault
+returns-clause-ok c =
+    rw (
+      c.in_ok-parts.ensures.ok,
+      ← c.in_ok-parts.ensures.inside,
+      c.in_ok-take_algorithm.ensures.ok,
+      ← c.in_ok-take_algorithm.ensures.next,
+      c.in_ok-bits.ensures.ok,
+      ← c.in_ok-bits.ensures.octets,
+      c.in-Some.ensures.some.0,
+      ← c.in_ok-bits.ensures.next,
+      c.in_ok-expect_end.ensures.ok,
+    ) refl
 
--- src/tbs.rt:99:1
 pub returns-clause-key : goal.returns-clause-key
-returns-clause-key c = ?
+unfolding key_at
+returns-clause-key c =
+    c.in-Some.ensures.some.1 ∙ ap key_in c.in_ok-bits.ensures.octets
+    ∙ ap (λ (x : Spot). key_in (octets_at x)) (c.in_ok-take_algorithm.ensures.next ∙ ap after c.in_ok-parts.ensures.inside)

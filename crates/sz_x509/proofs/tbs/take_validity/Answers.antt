@@ -1,26 +1,54 @@
-use Rattle.std.proofs.Common.{rules, ◌≡◌, true, false, None, Some, IfOk, IfErr, IfNone, IfSome, OnOk, ℕ, ◌+◌, ◌-◌, ◌*◌, ◌<◌, ◌≤◌, length, ◌/◌, ◌%◌, Bool, nat_eq, nat_lt, List, [], ◌∷◌, ◌++◌, slice_index_or, slice_set, bit_and, bit_or, Fits, w8, w32, w64, Bor, MutBor}
-use Rattle.sz_x509.specs.CertFault.{holds_key, key_fault, key_in, tbs_parts_fault, unique_id_fault, validity_fault, version_fault}
-use Rattle.sz_x509.specs.CertPlaces.{key_at, seconds_at, TbsAt}
-use Rattle.sz_x509.specs.Parts.{after, after_optional, inside, spot_of}
-use Rattle.sz_x509.specs.View.{at, fields_of}
+use Rattle.std.proofs.Common.{refl}
+use Rattle.sz_x509.specs.CertFault.{validity_fault}
+use Rattle.sz_x509.proofs.Steps.{exit}
 use Rattle.sz_x509.proofs.tbs.take_validity.Goals as goal
 
--- src/tbs.rt:91:21
 pub returns-in_err-times-clause-fault : goal.returns-in_err-times-clause-fault
-returns-in_err-times-clause-fault c = ?
+unfolding validity_fault
+returns-in_err-times-clause-fault c =
+    exit _ _ c.in_err-times.field-0.0 c.from_residual.ensures.1 (rw c.in_err-times.ensures.fault refl)
 
--- src/tbs.rt:92:22
 pub returns-in_err-not_before-clause-fault : goal.returns-in_err-not_before-clause-fault
-returns-in_err-not_before-clause-fault c = ?
+unfolding validity_fault
+returns-in_err-not_before-clause-fault c =
+    exit _ _ c.in_err-not_before.field-0.0 c.from_residual-in_err-not_before.ensures.1
+    (rw (c.in_ok-times.ensures.ok, ← c.in_ok-times.ensures.inside, c.in_err-not_before.ensures.fault) refl)
 
--- src/tbs.rt:93:21
 pub returns-in_err-not_after-clause-fault : goal.returns-in_err-not_after-clause-fault
-returns-in_err-not_after-clause-fault c = ?
+unfolding validity_fault
+returns-in_err-not_after-clause-fault c =
+    exit _ _ c.in_err-not_after.field-0.0 c.from_residual-in_err-not_after.ensures.1
+    (rw (
+      c.in_ok-times.ensures.ok,
+      ← c.in_ok-times.ensures.inside,
+      c.in_ok-not_before.ensures.ok,
+      ← c.in_ok-not_before.ensures.next,
+      c.in_err-not_after.ensures.fault,
+    ) refl)
 
--- src/tbs.rt:94:5
 pub returns-in_err-expect_end-clause-fault : goal.returns-in_err-expect_end-clause-fault
-returns-in_err-expect_end-clause-fault c = ?
+unfolding validity_fault
+returns-in_err-expect_end-clause-fault c =
+    exit _ _ c.in_err-expect_end.field-0.0 c.from_residual-in_err-expect_end.ensures.1
+    (rw (
+      c.in_ok-times.ensures.ok,
+      ← c.in_ok-times.ensures.inside,
+      c.in_ok-not_before.ensures.ok,
+      ← c.in_ok-not_before.ensures.next,
+      c.in_ok-not_after.ensures.ok,
+      ← c.in_ok-not_after.ensures.next,
+      c.in_err-expect_end.ensures.fault,
+    ) refl)
 
--- src/tbs.rt:84:1
 pub returns-clause-ok : goal.returns-clause-ok
-returns-clause-ok c = ?
+unfolding validity_fault
+returns-clause-ok c =
+    rw (
+      c.in_ok-times.ensures.ok,
+      ← c.in_ok-times.ensures.inside,
+      c.in_ok-not_before.ensures.ok,
+      ← c.in_ok-not_before.ensures.next,
+      c.in_ok-not_after.ensures.ok,
+      ← c.in_ok-not_after.ensures.next,
+      c.in_ok-expect_end.ensures.ok,
+    ) refl
