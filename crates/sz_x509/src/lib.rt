@@ -18,3 +18,6 @@ pub use cert::Cert;
 pub use fault::{CertFault, CertKind};
 pub use laws::fault_or_certificate;
 pub use writing::{CertSpec, is_writable, write_cert, write_tbs};
+
+#[cfg(test)]
+mod tests_writing;

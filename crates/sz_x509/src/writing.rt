@@ -14,9 +14,8 @@ use std::alloc::Global;
 use sz_base::{Bytes, OutOfMemory, Seconds, Text};
 use sz_der::DerWriter;
 use sz_der::tag::{CONTEXT_CONSTRUCTED, INTEGER, SEQUENCE};
-use times::write_time;
-
 pub use times::is_writable;
+use times::write_time;
 
 /// What a certificate is to say.
 #[derive(Debug, Drop)]

@@ -16,16 +16,32 @@ use sz_der::DerWriter;
 use sz_der::tag::{BIT_STRING, BOOLEAN, OBJECT_IDENTIFIER, OCTET_STRING, SEQUENCE};
 
 /// Puts `[3]` and the extensions last.
-pub(crate) fn write_extensions(alloc: Global, out: &mut DerWriter, spec: &CertSpec) -> Result<(), OutOfMemory>
+pub(crate) fn write_extensions(
+    alloc: Global,
+    out: &mut DerWriter,
+    spec: &CertSpec,
+) -> Result<(), OutOfMemory>
     ensures { OnOk result (Appends (AreWrittenExtensions (values_of spec.now)) out.old out.new) }
 {
     let constraints = basic_constraints(alloc, spec.ca, spec.path_len)?;
     let usage = item_of(alloc, BIT_STRING, &usage_octets(spec.ca))?;
     let key_id = key_identifier(alloc, &spec.key)?;
     let mut extensions = DerWriter::create(alloc)?;
-    write_extension(alloc, &mut extensions, &BASIC_CONSTRAINTS, true, constraints.as_slice())?;
+    write_extension(
+        alloc,
+        &mut extensions,
+        &BASIC_CONSTRAINTS,
+        true,
+        constraints.as_slice(),
+    )?;
     write_extension(alloc, &mut extensions, &KEY_USAGE, true, usage.as_slice())?;
-    write_extension(alloc, &mut extensions, &SUBJECT_KEY_IDENTIFIER, false, key_id.as_slice())?;
+    write_extension(
+        alloc,
+        &mut extensions,
+        &SUBJECT_KEY_IDENTIFIER,
+        false,
+        key_id.as_slice(),
+    )?;
     write_holder(alloc, out, EXTENSIONS, SEQUENCE, extensions.as_slice())
 }
 
@@ -86,7 +102,11 @@ fn write_path_length(out: &mut DerWriter, path_len: Option<u32>) -> Result<(), O
 fn usage_octets(ca: bool) -> [u8; 2]
     ensures { result ≡ usage_octets ca }
 {
-    if ca { [1, 0b1000_0110] } else { [7, 0b1000_0000] }
+    if ca {
+        [1, 0b1000_0110]
+    } else {
+        [7, 0b1000_0000]
+    }
 }
 
 // SubjectKeyIdentifier.

@@ -64,7 +64,11 @@ pub(crate) fn write_name(alloc: Global, out: &mut DerWriter, text: &[u8]) -> Res
 }
 
 /// Puts a BIT STRING of whole octets last.
-pub(crate) fn write_octets(alloc: Global, out: &mut DerWriter, octets: &[u8]) -> Result<(), OutOfMemory>
+pub(crate) fn write_octets(
+    alloc: Global,
+    out: &mut DerWriter,
+    octets: &[u8],
+) -> Result<(), OutOfMemory>
     ensures { OnOk result (AppendsItem out.old out.new BIT_STRING (0 ∷ octets.now)) }
 {
     let mut content = Bytes::from_slice(alloc, &[0])?;

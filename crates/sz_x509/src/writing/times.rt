@@ -24,7 +24,11 @@ pub fn is_writable(seconds: Seconds) -> bool
 }
 
 /// Puts a time last: through the year 2049 as a UTCTime, and from 2050 on as a GeneralizedTime.
-pub(crate) fn write_time(alloc: Global, out: &mut DerWriter, seconds: Seconds) -> Result<(), OutOfMemory>
+pub(crate) fn write_time(
+    alloc: Global,
+    out: &mut DerWriter,
+    seconds: Seconds,
+) -> Result<(), OutOfMemory>
     requires { IsWritable seconds.0 }
     ensures { OnOk result (Appends (IsWrittenTime seconds.0) out.old out.new) }
 {
@@ -58,7 +62,11 @@ fn write_utc_time(alloc: Global, out: &mut DerWriter, date: DateTime) -> Result<
 }
 
 // Puts a GeneralizedTime last.
-fn write_generalized_time(alloc: Global, out: &mut DerWriter, date: DateTime) -> Result<(), OutOfMemory>
+fn write_generalized_time(
+    alloc: Global,
+    out: &mut DerWriter,
+    date: DateTime,
+) -> Result<(), OutOfMemory>
     requires { IsReal (civil_time date) }
     ensures { OnOk result (AppendsItem out.old out.new GENERALIZED_TIME (generalized_text (civil_time date))) }
 {

@@ -31,8 +31,7 @@ returns-in-Some c =
 pub returns-in-None : goal.returns-in-None
 returns-in-None c =
     let fits : FitsSigned w64 c.args.seconds.0 = record { sfits = omega arith } in
-    let exact = rw (to_z-of_z w64 c.args.seconds.0 fits) at c.in-None.ensures.exact in
-    (
+    let exact = rw (to_z-of_z w64 c.args.seconds.0 fits) at c.in-None.ensures.exact in (
       λ holds. absurd cc,
       λ writable. exact.1 (subst (λ (s : ℤ). IsDated s) writable.1.is_at.at (IsDated-unix_seconds writable.0 writable.1.is_at.real)),
     )
