@@ -1,6 +1,6 @@
 //! A writer of certificates (RFC 5280 section 4.1) with HSS/LMS keys and signatures (RFC 8708).
 
-ghost use Rattle.std.specs.Prelude.{◌≡◌, IfOk, OnOk};
+ghost use Rattle.std.specs.Prelude.{IfOk, OnOk};
 ghost use Rattle.sz_x509.specs.Certificate.{Certificate, CertOf, IsTbs, IsVersion3};
 ghost use Rattle.sz_x509.specs.Written.{Appends, IsWritable, IsWrittenCert, IsWrittenKey, IsWrittenTbs, IsWrittenValidity, Says, signed, values_of};
 

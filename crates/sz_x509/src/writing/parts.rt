@@ -1,6 +1,6 @@
 //! The writers of parts that stand in certificates and in revocation lists.
 
-ghost use Rattle.std.specs.Prelude.{◌≡◌, ◌≢◌, ◌%◌, ◌∷◌, IfOk, OnOk};
+ghost use Rattle.std.specs.Prelude.{◌≢◌, ◌%◌, ◌∷◌, IfOk, OnOk};
 ghost use Rattle.sz_der.specs.Der.{Der};
 ghost use Rattle.sz_der.specs.Items.{AppendsItem};
 ghost use Rattle.sz_x509.specs.Certificate.{IsAlgorithm};
