@@ -218,7 +218,10 @@ fn a_name_has_127_pointers_at_most(rt: HostRuntime) -> Result<(), OutOfMemory> {
     let most = behind_pointers(rt.alloc(), 127)?;
     let more = behind_pointers(rt.alloc(), 128)?;
     assert_eq!(rt; is_empty(rt.alloc(), most.as_slice()), GIVES);
-    assert_eq!(rt; is_empty(rt.alloc(), more.as_slice()), bad(DnsKind::Pointer, 12));
+    assert_eq!(rt;
+        is_empty(rt.alloc(), more.as_slice()),
+        bad(DnsKind::Pointer, 12)
+    );
     Ok(())
 }
 
@@ -245,6 +248,9 @@ fn a_name_has_255_bytes_at_most(rt: HostRuntime) -> Result<(), OutOfMemory> {
     label[0] = 62;
     let more = long_name(rt.alloc(), &label)?;
     assert_eq!(rt; is_empty(rt.alloc(), most.as_slice()), GIVES);
-    assert_eq!(rt; is_empty(rt.alloc(), more.as_slice()), bad(DnsKind::Pointer, 12));
+    assert_eq!(rt;
+        is_empty(rt.alloc(), more.as_slice()),
+        bad(DnsKind::Pointer, 12)
+    );
     Ok(())
 }

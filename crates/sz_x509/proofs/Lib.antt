@@ -10,3 +10,5 @@ pub mod Walking
 pub mod Adding
 pub mod Whole
 pub mod OneCertificate
+pub mod WrittenParts
+pub mod WrittenLaw

@@ -5,3 +5,4 @@ pub mod Parts
 pub mod CertFault
 pub mod CertPlaces
 pub mod View
+pub mod Written

@@ -12,10 +12,14 @@ mod laws;
 mod parts;
 pub mod tag;
 mod tbs;
+mod writing;
 
 pub use cert::Cert;
 pub use fault::{CertFault, CertKind};
 pub use laws::fault_or_certificate;
+pub use writing::{CertSpec, is_writable, write_cert, write_tbs};
 
 #[cfg(test)]
 mod tests;
+#[cfg(test)]
+mod tests_writing;
