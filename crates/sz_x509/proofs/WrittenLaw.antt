@@ -9,7 +9,7 @@ use Rattle.std.proofs.lemmas.List.{append-nil}
 use Rattle.sz_calendar.specs.CivilTime.{CivilTime, IsReal}
 use Rattle.sz_der.specs.Content.{bit_of, HasNamedBits, HoldsBits, IsBits}
 use Rattle.sz_der.specs.Time.{NamesTime}
-use Rattle.sz_x509.specs.Certificate.{Certificate, CertOf, IsKey, IsTbs, IsTime, IsValidity}
+use Rattle.sz_x509.specs.Certificate.{Certificate, CertOf, IsKey, IsTbs, IsTime, IsValidity, key_length}
 use Rattle.sz_x509.specs.Extensions.{AreDistinct, AreExtensions, Extension, HasExtensions, IsBasicConstraints, IsExtension, IsFlag, IsKeyUsage, IsUnderstood, Restrict}
 use Rattle.sz_x509.specs.Written.{AreValues, AreWrittenExtensions, CertValues, constraints_extension, is_utc, IsDefaultFalse, IsFrom1950, IsWrittenCert, IsWrittenConstraints, IsWrittenExtension, IsWrittenKey, IsWrittenTbs, IsWrittenTime, IsWrittenValidity, key_id_extension, restrictions_of, Says, signed, time_tag, time_text, usage_extension, usage_octets, usage_of}
 
@@ -46,10 +46,10 @@ is_validity w = record {
 is_key : {key bytes : List ℕ} → IsWrittenKey key bytes → IsKey key bytes
 is_key {key} w = record {
   algorithm = w.algorithm;
-  octets = key;
+  octets = 4 ∷ key_length ∷ key;
   bits = w.bits;
   is_algorithm = w.is_algorithm;
-  holds_key = record { of_length = w.of_length; raw_or_wrapped = inl refl };
+  holds_key = record { of_length = w.of_length; raw_or_wrapped = inr refl };
   is_bits = w.is_bits;
   is_sequence = w.is_sequence;
 }

@@ -1,9 +1,9 @@
 -- Parts that a writer joins, one after another in an item.
-use Rattle.std.proofs.Common.{◌≡◌, ℕ, Bool, List, [], ◌∷◌, ◌++◌, refl, sym, ap, subst, ◌∙◌, append_assoc}
+use Rattle.std.proofs.Common.{◌≡◌, ℕ, Bool, List, [], ◌∷◌, ◌++◌, length, refl, sym, ap, subst, ◌∙◌, append_assoc}
 use Rattle.sz_der.specs.Der.{Der}
 use Rattle.sz_der.specs.Items.{AppendsInteger, AppendsItem}
-use Rattle.sz_der.specs.declared.tag.TheConstants.{OBJECT_IDENTIFIER, OCTET_STRING, SEQUENCE, SET, UTF8_STRING}
-use Rattle.sz_x509.specs.Certificate.{IsAlgorithm, IsVersion3}
+use Rattle.sz_der.specs.declared.tag.TheConstants.{BIT_STRING, OBJECT_IDENTIFIER, OCTET_STRING, SEQUENCE, SET, UTF8_STRING}
+use Rattle.sz_x509.specs.Certificate.{IsAlgorithm, IsVersion3, key_length}
 use Rattle.sz_x509.specs.Written.{Appends, AreValues, AreWrittenExtensions, CertValues, constraints_extension, Holds, IsCommonName, IsDefaultFalse, IsWrittenExtension, IsWrittenKey, IsWrittenTbs, IsWrittenValidity, key_id_extension, usage_extension}
 use Rattle.sz_x509.specs.declared.tag.TheConstants.{EXTENSIONS}
 use Rattle.sz_x509.specs.declared.writing.parts.TheConstants.{COMMON_NAME}
@@ -39,6 +39,25 @@ name_written {text} {start} {first} {second} {held} {inside} {names} {old} {new}
         is_attribute = Der_of (same ∙ attribute) holder.is_part.is_inner;
         is_set = holder.is_part.is_outer;
         is_sequence = Der_of (is ∙ from_start inside names holder.part none holder.appended) out.is_item;
+      };
+      appended = out.appended;
+    }
+
+pub key_written : {key octets held start first second read old new : List ℕ} → length key ≡ key_length → octets ≡ OCTET_STRING ∷ key_length ∷ key →
+    held ≡ octets → start ≡ [] → Appends IsAlgorithm start first → AppendsItem first second BIT_STRING (0 ∷ held) → read ≡ second →
+    AppendsItem old new SEQUENCE read → Appends (IsWrittenKey key) old new
+key_written {start = start} {first = first} {second = second} size wrapped same empty algorithm bits is out =
+    let parts = from_start start second (algorithm.part ++ bits.whole) empty
+    (and_after start algorithm.part bits.whole first second algorithm.appended bits.appended) in
+    record {
+      part = out.whole;
+      is_part = record {
+        of_length = size;
+        algorithm = algorithm.part;
+        bits = bits.whole;
+        is_algorithm = algorithm.is_part;
+        is_bits = Der_of (ap (λ (x : List ℕ). 0 ∷ x) (same ∙ wrapped)) bits.is_item;
+        is_sequence = Der_of (is ∙ parts) out.is_item;
       };
       appended = out.appended;
     }

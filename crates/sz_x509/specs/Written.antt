@@ -95,13 +95,13 @@ pub record IsWrittenValidity (not_before not_after : ℤ) (bytes : List ℕ) : T
   pub is_last : IsWrittenTime not_after last
   pub is_sequence : Der SEQUENCE (first ++ last) bytes
 
--- SubjectPublicKeyInfo (4.1.2.7), with the key as it is in the BIT STRING (RFC 8708 section 4)
+-- SubjectPublicKeyInfo (4.1.2.7), with the key as an OCTET STRING of 60 octets in the BIT STRING (RFC 8708 section 4)
 pub record IsWrittenKey (key bytes : List ℕ) : Type 0 where
   pub of_length : length key ≡ key_length
   pub algorithm : List ℕ
   pub bits : List ℕ
   pub is_algorithm : IsAlgorithm algorithm
-  pub is_bits : Der BIT_STRING (0 ∷ key) bits
+  pub is_bits : Der BIT_STRING (0 ∷ OCTET_STRING ∷ key_length ∷ key) bits
   pub is_sequence : Der SEQUENCE (algorithm ++ bits) bytes
 
 -- BasicConstraints (4.2.1.9)

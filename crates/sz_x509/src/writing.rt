@@ -1,7 +1,7 @@
 //! A writer of certificates (RFC 5280 section 4.1) with HSS/LMS keys and signatures (RFC 8708).
 
-ghost use Rattle.std.specs.Prelude.{IfOk, OnOk};
-ghost use Rattle.sz_x509.specs.Certificate.{Certificate, CertOf, IsTbs, IsVersion3};
+ghost use Rattle.std.specs.Prelude.{◌≡◌, ◌∷◌, IfOk, OnOk};
+ghost use Rattle.sz_x509.specs.Certificate.{Certificate, CertOf, IsTbs, IsVersion3, key_length};
 ghost use Rattle.sz_x509.specs.Written.{Appends, IsWritable, IsWrittenCert, IsWrittenKey, IsWrittenTbs, IsWrittenValidity, Says, signed, values_of};
 
 mod extensions;
@@ -13,9 +13,12 @@ use parts::{item_of, write_algorithm, write_holder, write_name, write_octets};
 use std::alloc::Global;
 use sz_base::{Bytes, OutOfMemory, Seconds, Text};
 use sz_der::DerWriter;
-use sz_der::tag::{CONTEXT_CONSTRUCTED, INTEGER, SEQUENCE};
+use sz_der::tag::{CONTEXT_CONSTRUCTED, INTEGER, OCTET_STRING, SEQUENCE};
 pub use times::is_writable;
 use times::write_time;
+
+// the length of an HSS public key (RFC 8554 section 6.1)
+const KEY_LENGTH: u8 = 60;
 
 /// What a certificate is to say.
 #[derive(Debug, Drop)]
@@ -117,13 +120,23 @@ fn write_validity(
     Ok(())
 }
 
-// Puts the key, raw in its BIT STRING, last.
+// Puts the key, as an OCTET STRING in its BIT STRING, last.
 fn write_key(alloc: Global, out: &mut DerWriter, key: &[u8; 60]) -> Result<(), OutOfMemory>
     ensures { OnOk result (Appends (IsWrittenKey key.now) out.old out.new) }
 {
     let mut parts = DerWriter::create(alloc)?;
     write_algorithm(alloc, &mut parts)?;
-    write_octets(alloc, &mut parts, key)?;
+    let wrapped = wrapped(alloc, key)?;
+    write_octets(alloc, &mut parts, wrapped.as_slice())?;
     out.item(SEQUENCE, parts.as_slice())?;
     Ok(())
+}
+
+// The key as an OCTET STRING.
+fn wrapped(alloc: Global, key: &[u8; 60]) -> Result<Bytes, OutOfMemory>
+    ensures { IfOk result (λ octets. octets ≡ OCTET_STRING ∷ key_length ∷ key.now) }
+{
+    let mut octets = Bytes::from_slice(alloc, &[OCTET_STRING, KEY_LENGTH])?;
+    octets.append(key)?;
+    Ok(octets)
 }
