@@ -1,6 +1,6 @@
 #!/usr/bin/env bash
-# Shows what `sztp check` does at the edge of the system: files that are no plain files, outputs that refuse, and a file
-# of 1 GiB in little memory. Prints a line a row, and fails at the first that isn't as it should be.
+# Shows what `sztp check` does at the edge of the system: words, files that are no plain files, outputs that refuse, and
+# files of 1 GiB in little memory. Prints a line a row, and fails at the first that isn't as it should be.
 # Usage: bench/edge.sh [PROGRAM]      the built program, crates/sztp/out/sztp if none is named
 set -euo pipefail
 here=$(cd "$(dirname "$0")" && pwd)
@@ -72,27 +72,39 @@ refused "a full output" $status
 refused "a broken pipe" "$(cat status)"
 [ "$(cat message | sha256sum)" = "$(head -c 55 /dev/zero | sha256sum)" ] || { echo "an input was written"; exit 1; }
 
-# ---- a file of 1 GiB, in less than 4 MiB of memory
-truncate -s 1G large
-start=$(date +%s%N)
-"$program" check public large signature >line &
-process=$!
-most=0
-while resident=$(awk '/^VmHWM/ { print $2 }' /proc/$process/status 2>/dev/null) && [ -n "$resident" ]; do
-    most=$resident
-    sleep 0.05
-done
-status=0
-wait $process || status=$?
-checked=$(($(date +%s%N) - start))
-[ "$(cat line)" = "not valid: root" ] && [ $status = 3 ] || { echo "1 GiB: '$(cat line)' with status $status"; exit 1; }
-start=$(date +%s%N)
-openssl dgst -sha256 large >/dev/null
-with=$(($(date +%s%N) - start))
-start=$(date +%s%N)
-OPENSSL_ia32cap=:~0x20000000 openssl dgst -sha256 large >/dev/null
-without=$(($(date +%s%N) - start))
-awk -v checked=$checked -v with=$with -v without=$without -v most=$most 'BEGIN {
-    printf "1 GiB: %.2f s, %.2f of openssl, %.2f of it without SHA extensions, %d KiB of memory at most\n",
-        checked / 1e9, checked / with, checked / without, most }'
-[ "$most" -lt 4096 ] || { echo "1 GiB: $most KiB of memory, where less than 4096 are due"; exit 1; }
+# ---- files of 1 GiB, each in less than 4 MiB of memory
+
+# large NAME LINE WORD..: the program, run with these words, prints this line and ends with 3; sets `spent` (nanoseconds)
+large() {
+    local name=$1 due=$2 status=0 start most line
+    shift 2
+    start=$(date +%s%N)
+    command time -f %M -o most -q "$program" "$@" >printed || status=$?
+    spent=$(($(date +%s%N) - start))
+    most=$(tail -n 1 most)
+    line=$(cat printed)
+    echo "$name of 1 GiB: $line, status $status, $most KiB of memory at most"
+    if [ "$line" != "$due" ] || [ $status != 3 ] || [ "$most" -ge 4096 ]; then
+        echo "$name of 1 GiB: '$due', status 3 and less than 4096 KiB are due"
+        exit 1
+    fi
+}
+truncate -s 1G zeros
+cp public longer-key
+truncate -s 1G longer-key
+cp signature longer-signature
+truncate -s 1G longer-signature
+large "a key" "not valid: length" check longer-key message signature
+large "a signature" "not valid: length" check public message longer-signature
+large "a file" "not valid: root" check public zeros signature
+
+# seconds of openssl for the same bytes; $1 masks the processor's extensions, if any
+hashed() {
+    local start
+    start=$(date +%s%N)
+    OPENSSL_ia32cap=$1 openssl dgst -sha256 zeros >/dev/null
+    echo $(($(date +%s%N) - start))
+}
+awk -v spent=$spent -v with="$(hashed "")" -v without="$(hashed ":~0x20000000")" 'BEGIN {
+    printf "the file of 1 GiB: %.2f s, %.2f of openssl, %.2f of it without SHA extensions\n",
+        spent / 1e9, spent / with, spent / without }'
