@@ -5,11 +5,15 @@
 //! with the given values, whose signer's digest fits and which cover what was signed.
 #![tactic(auto)]
 
+mod attributes;
 mod fault;
 pub mod identifier;
 mod info;
 mod kind;
+mod parts;
+mod reading;
 mod signer;
+mod signers;
 mod writing;
 
 pub use fault::{InfoFault, InfoKind};
