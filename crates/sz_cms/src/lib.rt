@@ -21,3 +21,6 @@ pub use info::{Info, MOST_CERTS, MOST_CRLS, MOST_SIGNERS, Signed};
 pub use kind::Kind;
 pub use signer::{Covered, Identifier, SignedAttributes, Signer};
 pub use writing::{write_attributes, write_certs, write_plain, write_signed};
+
+#[cfg(test)]
+mod tests;
