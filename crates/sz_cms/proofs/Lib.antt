@@ -1,0 +1,10 @@
+pub mod Contents
+pub mod Joined
+pub mod Lists
+pub mod Optional
+pub mod Readings
+pub mod SignerLaws
+pub mod Spots
+pub mod Steps
+pub mod Walk
+pub mod WrittenParts

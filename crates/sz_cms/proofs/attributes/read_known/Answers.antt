@@ -1,0 +1,36 @@
+use Rattle.std.proofs.Common.{[], ◌∷◌, ◌++◌}
+use Rattle.sz_cms.specs.MessageFault.{attribute_fault}
+use Rattle.sz_cms.specs.Parts.{spot_of}
+use Rattle.sz_cms.proofs.Walk.{walks_end, walks_fault, walks_start, walks_step}
+use Rattle.sz_cms.proofs.Steps.{at_end_is, exit, not_at_end}
+use Rattle.sz_cms.proofs.Readings.{shorter}
+use Rattle.sz_cms.proofs.attributes.read_known.Goals as goal
+
+pub loop-known-init : goal.loop-known-init
+loop-known-init c =
+    ([], walks_start attribute_fault (spot_of c.args.first.now), c.none-known.ensures)
+
+pub loop-known-smaller : goal.loop-known-smaller
+loop-known-smaller c =
+    shorter c.loop-known.each c.take_attribute.new.reader (not_at_end c.loop-known.each c.is_at_end.result c.is_at_end.ensures c.loop-known-test.true) c.in_ok-known.ensures.next
+
+pub loop-known-preserved : goal.loop-known-preserved
+loop-known-preserved c =
+    let inv = c.loop-known.invariant in (
+      inv.0 ++ spot_of c.loop-known.each ∷ [],
+      rw c.in_ok-known.ensures.next (walks_step attribute_fault (spot_of c.args.first.now) inv.0 (spot_of c.loop-known.each) inv.1 (not_at_end c.loop-known.each c.is_at_end.result c.is_at_end.ensures c.loop-known-test.true) (c.in_ok-known.ensures.ok inv.0 inv.2)),
+      c.in_ok-known.ensures.known inv.0 inv.2,
+    )
+
+pub returns-in_err-known-clause-fault : goal.returns-in_err-known-clause-fault
+returns-in_err-known-clause-fault c =
+    let inv = c.loop-known.invariant in exit _ _ c.in_err-known.field-0.0 c.from_residual.ensures.1
+    (walks_fault attribute_fault (spot_of c.args.first.now) inv.0 (spot_of c.loop-known.each) _ inv.1 (not_at_end c.loop-known.each c.is_at_end.result c.is_at_end.ensures c.loop-known-test.true) (c.in_err-known.ensures.fault inv.0 inv.2))
+
+pub returns-clause-ok : goal.returns-clause-ok
+returns-clause-ok c =
+    let inv = c.loop-known.invariant in (walks_end attribute_fault (spot_of c.args.first.now) inv.0 (spot_of c.loop-known.each) inv.1 (at_end_is c.loop-known.each (c.is_at_end.ensures.0 c.loop-known-test.false))).0
+
+pub returns-clause-known : goal.returns-clause-known
+returns-clause-known c =
+    let inv = c.loop-known.invariant in rw (walks_end attribute_fault (spot_of c.args.first.now) inv.0 (spot_of c.loop-known.each) inv.1 (at_end_is c.loop-known.each (c.is_at_end.ensures.0 c.loop-known-test.false))).1 inv.2

@@ -1,0 +1,20 @@
+use Rattle.std.proofs.Common.{refl}
+use Rattle.sz_cms.specs.MessageFault.{algorithms_fault}
+use Rattle.std.proofs.lemmas.Result.{MatchResult-weaker}
+use Rattle.sz_cms.proofs.Steps.{exit}
+use Rattle.sz_cms.proofs.reading.take_algorithms.Goals as goal
+
+pub returns-in_err-each-clause-fault : goal.returns-in_err-each-clause-fault
+unfolding algorithms_fault
+returns-in_err-each-clause-fault c =
+    exit _ _ c.in_err-each.field-0.0 c.from_residual.ensures.1 (rw c.in_err-each.ensures.fault refl)
+
+pub returns-clause-ok : goal.returns-clause-ok
+unfolding algorithms_fault
+returns-clause-ok c =
+    MatchResult-weaker c.read_algorithms.result c.read_algorithms.ensures.ok (λ x e. rw (c.in_ok-each.ensures.ok, ← c.in_ok-each.ensures.inside, e) refl) (λ x p. p)
+
+pub returns-clause-fault : goal.returns-clause-fault
+unfolding algorithms_fault
+returns-clause-fault c =
+    MatchResult-weaker c.read_algorithms.result c.read_algorithms.ensures.fault (λ x p. p) (λ x e. rw (c.in_ok-each.ensures.ok, ← c.in_ok-each.ensures.inside, e) refl)

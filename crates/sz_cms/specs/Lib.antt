@@ -1,0 +1,11 @@
+pub mod Contents
+pub mod Kind
+pub mod Known
+pub mod Message
+pub mod MessageFault
+pub mod Parts
+pub mod Places
+pub mod Printed
+pub mod Signature
+pub mod View
+pub mod Written
