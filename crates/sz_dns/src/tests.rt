@@ -90,7 +90,11 @@ fn other_records_are_passed_over(rt: HostRuntime) {
         b"\xc0\x0c\x00\x21\x00\x01\x00\x00\x0e\x10\x00\x0a\x00\x00\x00\x00\x00\x00\x01a\xc0\x17",
         b"\xc0\x0c\x00\x21\x00\x01\x00\x00\x0e\x10\x00\x0a\x00\x00\x00\x00\x01\xbb\x01*\xc0\x17",
     ] {
-        assert_eq!(rt; gives(rt.alloc(), 2, record, FIRST, A), GIVES, "at {record:?}");
+        assert_eq!(rt;
+            gives(rt.alloc(), 2, record, FIRST, A),
+            GIVES,
+            "at {record:?}"
+        );
     }
 }
 
@@ -207,7 +211,10 @@ fn a_name_has_127_pointers_at_most(rt: HostRuntime) -> Result<(), OutOfMemory> {
     let most = behind_pointers(rt.alloc(), 127)?;
     let more = behind_pointers(rt.alloc(), 128)?;
     assert_eq!(rt; is_empty(rt.alloc(), most.as_slice()), GIVES);
-    assert_eq!(rt; is_empty(rt.alloc(), more.as_slice()), bad(DnsKind::Pointer, 12));
+    assert_eq!(rt;
+        is_empty(rt.alloc(), more.as_slice()),
+        bad(DnsKind::Pointer, 12)
+    );
     Ok(())
 }
 
@@ -234,6 +241,9 @@ fn a_name_has_255_bytes_at_most(rt: HostRuntime) -> Result<(), OutOfMemory> {
     label[0] = 62;
     let more = long_name(rt.alloc(), &label)?;
     assert_eq!(rt; is_empty(rt.alloc(), most.as_slice()), GIVES);
-    assert_eq!(rt; is_empty(rt.alloc(), more.as_slice()), bad(DnsKind::Pointer, 12));
+    assert_eq!(rt;
+        is_empty(rt.alloc(), more.as_slice()),
+        bad(DnsKind::Pointer, 12)
+    );
     Ok(())
 }
