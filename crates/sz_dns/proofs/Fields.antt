@@ -42,7 +42,8 @@ fields_at bytes contents rest kind class octets long behind kinds classes sizes 
       own,
       are,
       whole
-          ∙ ap (λ (n : ℕ). two_bytes n ++ (two_bytes (number_at bytes 2) ++ (time_in bytes ++ (two_bytes (number_at bytes 8) ++ (contents ++ rest))))) (sym kinds)
+          ∙ ap (λ (n : ℕ). two_bytes n
+          ++ (two_bytes (number_at bytes 2) ++ (time_in bytes ++ (two_bytes (number_at bytes 8) ++ (contents ++ rest))))) (sym kinds)
           ∙ ap (λ (n : ℕ). two_bytes kind ++ (two_bytes n ++ (time_in bytes ++ (two_bytes (number_at bytes 8) ++ (contents ++ rest))))) (sym classes)
           ∙ ap (λ (n : ℕ). two_bytes kind ++ (two_bytes class ++ (time_in bytes ++ (two_bytes n ++ (contents ++ rest))))) (sym sizes)
           ∙ sym (in_order kind class contents own rest are),

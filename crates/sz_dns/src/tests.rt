@@ -61,49 +61,13 @@ fn services_are_taken_by_priority(rt: HostRuntime) {
         (3, FIRST, OTHERS, all),
         (1, FIRST, OTHERS, A),
         (0, FIRST, OTHERS, NONE),
-        // letters in the other case, then another type, another class, another owner, the root, port 0, and a mark
+        // letters in the other case
         (1, b"\x05_SZTP\x04_Tcp\xc0\x17", FIRST.split_at(2).1, A),
-        (
-            2,
-            b"\xc0\x0c\x00\x10\x00\x01\x00\x00\x0e\x10\x00\x02\x01a",
-            FIRST,
-            A,
-        ),
-        (
-            2,
-            b"\xc0\x0c\x00\x21\x00\x03\x00\x00\x0e\x10\x00\x02\x01a",
-            FIRST,
-            A,
-        ),
-        (
-            2,
-            b"\xc0\x12\x00\x21\x00\x01\x00\x00\x0e\x10\x00\x02\x01a",
-            FIRST,
-            A,
-        ),
-        (
-            2,
-            b"\xc0\x0c\x00\x21\x00\x01\x00\x00\x0e\x10\x00\x07\x00\x00\x00\x00\x01\xbb\x00",
-            FIRST,
-            A,
-        ),
-        (
-            2,
-            b"\xc0\x0c\x00\x21\x00\x01\x00\x00\x0e\x10\x00\x0a\x00\x00\x00\x00\x00\x00\x01a\xc0\x17",
-            FIRST,
-            A,
-        ),
-        (
-            2,
-            b"\xc0\x0c\x00\x21\x00\x01\x00\x00\x0e\x10\x00\x0a\x00\x00\x00\x00\x01\xbb\x01*\xc0\x17",
-            FIRST,
-            A,
-        ),
-        // bytes behind the target
+        // a byte behind the target
         (
             1,
-            b"\xc0\x0c\x00\x21\x00\x01\x00\x00\x0e\x10\x00\x0b\x00\x14\x00\x05\x01\xbb\x01a\xc0\x17\xff",
-            b"",
+            FIRST.split_at(10).0,
+            b"\x00\x0b\x00\x14\x00\x05\x01\xbb\x01a\xc0\x17\xff",
             A,
         ),
     ] {
@@ -115,9 +79,28 @@ fn services_are_taken_by_priority(rt: HostRuntime) {
     }
 }
 
+// another type, another class, another owner, the root, port 0, and a byte that no host has
+#[test]
+fn other_records_are_passed_over(rt: HostRuntime) {
+    for record in [
+        &b"\xc0\x0c\x00\x10\x00\x01\x00\x00\x0e\x10\x00\x02\x01a"[..],
+        b"\xc0\x0c\x00\x21\x00\x03\x00\x00\x0e\x10\x00\x02\x01a",
+        b"\xc0\x12\x00\x21\x00\x01\x00\x00\x0e\x10\x00\x02\x01a",
+        b"\xc0\x0c\x00\x21\x00\x01\x00\x00\x0e\x10\x00\x07\x00\x00\x00\x00\x01\xbb\x00",
+        b"\xc0\x0c\x00\x21\x00\x01\x00\x00\x0e\x10\x00\x0a\x00\x00\x00\x00\x00\x00\x01a\xc0\x17",
+        b"\xc0\x0c\x00\x21\x00\x01\x00\x00\x0e\x10\x00\x0a\x00\x00\x00\x00\x01\xbb\x01*\xc0\x17",
+    ] {
+        assert_eq!(rt;
+            gives(rt.alloc(), 2, record, FIRST, A),
+            GIVES,
+            "at {record:?}"
+        );
+    }
+}
+
 // the first record begins at 40
 #[test]
-fn each_fault_is_told_at_its_place(rt: HostRuntime) {
+fn a_short_record_is_told_where_it_begins(rt: HostRuntime) {
     for (count, record, more, answer) in [
         // no record, half a pointer, a pointer past the end, nine bytes of fields, and data that are cut
         (1, &b""[..], &b""[..], bad(DnsKind::Short, 40)),
@@ -143,26 +126,36 @@ fn each_fault_is_told_at_its_place(rt: HostRuntime) {
             b"\x00\x08\x00\x14\x00\x05\x01\xbb\x01a\xc0\x17",
             bad(DnsKind::Short, 40),
         ),
+    ] {
+        assert_eq!(rt;
+            gives(rt.alloc(), count, record, more, NONE),
+            answer,
+            "at {record:?}{more:?}"
+        );
+    }
+}
+
+#[test]
+fn the_fault_of_a_name_is_told_where_it_begins(rt: HostRuntime) {
+    for (record, more, answer) in [
         // labels of other kinds, in an owner, and in a target at 58
-        (1, b"\x40", b"", bad(DnsKind::Label, 40)),
-        (1, b"\x01a\x80", b"", bad(DnsKind::Label, 40)),
+        (&b"\x40"[..], &b""[..], bad(DnsKind::Label, 40)),
+        (b"\x01a\x80", b"", bad(DnsKind::Label, 40)),
         (
-            1,
             FIRST.split_at(10).0,
             b"\x00\x07\x00\x14\x00\x05\x01\xbb\xbf",
             bad(DnsKind::Label, 58),
         ),
         // pointers to themselves
-        (1, b"\xc0\x28", b"", bad(DnsKind::Pointer, 40)),
+        (b"\xc0\x28", b"", bad(DnsKind::Pointer, 40)),
         (
-            1,
             FIRST.split_at(10).0,
             b"\x00\x08\x00\x14\x00\x05\x01\xbb\xc0\x3a",
             bad(DnsKind::Pointer, 58),
         ),
     ] {
         assert_eq!(rt;
-            gives(rt.alloc(), count, record, more, NONE),
+            gives(rt.alloc(), 1, record, more, NONE),
             answer,
             "at {record:?}{more:?}"
         );
