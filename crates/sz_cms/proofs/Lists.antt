@@ -37,7 +37,7 @@ module _ {A : Type 0} (fault : List Spot → Spot → Option Fault) (Is : A → 
 
   pub clear_each : (Room : List Spot → List A → Type 0) →
       ((earlier : List Spot) (spot : Spot) (value : A) (values : List A) (whole rest : List ℕ) → Room earlier (value ∷ values) → Is value whole →
-        spot.left ≡ whole ++ rest → IsClear fault at Room earlier spot value values rest) →
+      spot.left ≡ whole ++ rest → IsClear fault at Room earlier spot value values rest) →
       (n : ℕ) (earlier : List Spot) (spot : Spot) (values : List A) → length spot.left ≤ n → AreWritten Is values spot.left → Room earlier values →
       (each_after fault earlier (spots_upto n spot) ≡ None) × (map at (spots_upto n spot) ≡ values)
   unfolding spots_upto is_at_end

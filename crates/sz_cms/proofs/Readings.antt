@@ -267,8 +267,11 @@ pub choice_fits : (most : ℕ) (earlier : List Spot) (spot : Spot) → some_item
     choice_fault most earlier spot ≡ None
 unfolding choice_fault
 choice_fits most earlier spot item room =
-    rw (item, rule_from_holds (not (is_sequence spot) || nat_lt (length (sequences_at earlier)) most) (kinds.TooMany most) spot
-        (or_right (not (is_sequence spot)) _ room)) refl
+    rw (
+      item,
+      rule_from_holds (not (is_sequence spot) || nat_lt (length (sequences_at earlier)) most) (kinds.TooMany most) spot
+          (or_right (not (is_sequence spot)) _ room),
+    ) refl
 
 pub choice_other : (most : ℕ) (earlier : List Spot) (spot : Spot) → some_item spot ≡ None → (tag_at spot ≡ SEQUENCE → ⊥) → choice_fault most earlier spot ≡ None
 unfolding choice_fault is_sequence

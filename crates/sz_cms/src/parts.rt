@@ -42,10 +42,7 @@ pub(crate) fn take_part<'a>(reader: &mut DerReader<'a>, tag: u8) -> Result<Item<
 }
 
 /// Takes the next item as a part, and answers a reader of what it holds.
-pub(crate) fn open_part<'a>(
-    reader: &mut DerReader<'a>,
-    tag: u8,
-) -> Result<DerReader<'a>, InfoFault>
+pub(crate) fn open_part<'a>(reader: &mut DerReader<'a>, tag: u8) -> Result<DerReader<'a>, InfoFault>
     ensures ok { OnOk result (part tag (spot_of reader.old) ≡ None) }
     ensures inside { IfOk result (λ parts. spot_of parts ≡ inside (spot_of reader.old)) }
     ensures next { OnOk result (spot_of reader.new ≡ after (spot_of reader.old)) }

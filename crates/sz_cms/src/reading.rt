@@ -9,7 +9,9 @@ ghost use Rattle.sz_cms.specs.Places.{choices_at, content_field_at, info_at, inn
 ghost use Rattle.sz_cms.specs.View.{at, info_of, IsNamed, kind_of, signed_of, signer_of};
 
 use crate::identifier::{ENVELOPED_DATA, SIGNED_DATA};
-use crate::parts::{expect_end, fault_of, is_next, open_part, parts_of, take_integer, take_item, take_part};
+use crate::parts::{
+    expect_end, fault_of, is_next, open_part, parts_of, take_integer, take_item, take_part,
+};
 use crate::signers::{read_signer, take_algorithm};
 use crate::{Info, InfoFault, InfoKind, Kind, MOST_CERTS, MOST_CRLS, MOST_SIGNERS, Signed, Signer};
 use arrayvec::ArrayVec;
@@ -193,10 +195,7 @@ fn read_choices<'a, const MOST: usize>(
         let item = take_item(&mut each)?;
         if item.tag == SEQUENCE {
             if kept.is_full() {
-                return Err(fault_of(
-                    &item,
-                    InfoKind::TooMany { limit: MOST as u8 },
-                ));
+                return Err(fault_of(&item, InfoKind::TooMany { limit: MOST as u8 }));
             }
             kept.push(item.whole);
         }
@@ -218,9 +217,7 @@ fn take_signers<'a>(
 }
 
 // Reads signers, one after another.
-fn read_signers<'a>(
-    first: &DerReader<'a>,
-) -> Result<ArrayVec<Signer<'a>, MOST_SIGNERS>, InfoFault>
+fn read_signers<'a>(first: &DerReader<'a>) -> Result<ArrayVec<Signer<'a>, MOST_SIGNERS>, InfoFault>
     ensures ok { OnOk result (each_from signer_fault (spot_of first.now) ≡ None) }
     ensures signers { IfOk result (λ signers. map signer_of signers.items
         ≡ map signer_at (spots_from (spot_of first.now))) }

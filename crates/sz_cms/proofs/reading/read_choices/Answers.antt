@@ -27,7 +27,7 @@ loop-each-preserved-then-item-eq-SEQUENCE g c =
       inv.0 ++ spot_of c.loop-each.each ∷ [],
       rw c.in_ok-item.ensures.next (walks_step (choice_fault g.row.MOST) (spot_of c.args.first.now) inv.0 (spot_of c.loop-each.each) inv.1 (not_at_end c.loop-each.each c.is_at_end.result c.is_at_end.ensures c.loop-each-test.true) none),
       pushed_kept _ _ c.in_ok-item.item.whole inv.0 (spot_of c.loop-each.each) c.push.ensures.items inv.2 c.in_ok-item.ensures.item.whole
-      (sym c.in_ok-item.ensures.item.tag ∙ c.if-item-eq-SEQUENCE.true),
+          (sym c.in_ok-item.ensures.item.tag ∙ c.if-item-eq-SEQUENCE.true),
     )
 
 pub loop-each-preserved : goal.loop-each-preserved

@@ -6,7 +6,7 @@ use Rattle.sz_cms.proofs.Walk.{Walks}
 use Rattle.sz_cms.proofs.reading.read_choices.Given as goal
 
 abbrev pub invariant-loop-each : goal.invariant-loop-each
-invariant-loop-each g l = 
+invariant-loop-each g l =
     (earlier : List Spot) × Walks (choice_fault g.row.MOST) (spot_of l.fn.first) earlier (spot_of l.each)
     × (map (λ item. item.now) l.kept.items ≡ sequences_at earlier)
 

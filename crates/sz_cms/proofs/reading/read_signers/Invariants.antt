@@ -8,7 +8,7 @@ use Rattle.sz_cms.proofs.Walk.{Walks}
 use Rattle.sz_cms.proofs.reading.read_signers.Given as goal
 
 abbrev pub invariant-loop-each : goal.invariant-loop-each
-invariant-loop-each l = 
+invariant-loop-each l =
     (earlier : List Spot) × Walks signer_fault (spot_of l.fn.first) earlier (spot_of l.each) × (map signer_of l.signers.items ≡ map signer_at earlier)
 
 abbrev pub decreases-loop-each : goal.decreases-loop-each
