@@ -41,7 +41,8 @@ exit_all (Ok value) found fault is h = absurd is
 exit_all (Err e) found fault is h = rw is h
 
 -- a fault at the place of a reader
-pub place_is : (reader : DerReader) → ◌≡◌ {A = Option Fault} (Some (kinds.Attribute, place_at (spot_of reader))) (Some (kinds.Attribute, place_of reader.end reader.left.now))
+pub place_is : (reader : DerReader) →
+    ◌≡◌ {A = Option Fault} (Some (kinds.Attribute, place_at (spot_of reader))) (Some (kinds.Attribute, place_of reader.end reader.left.now))
 unfolding spot_of place_at
 place_is reader = refl
 
@@ -120,7 +121,8 @@ value_more known earlier spot e fresh =
           ]
     ]
 
-pub known_more : (earlier : List Spot) (spot : Spot) (old new : KnownValues) → AreKnown earlier old → IsWith (type_at spot) (inside (values_spot spot)) old new →
+pub known_more : (earlier : List Spot) (spot : Spot) (old new : KnownValues) → AreKnown earlier old →
+    IsWith (type_at spot) (inside (values_spot spot)) old new →
     (is_known (type_at spot) && stands_among earlier (type_at spot)) ≡ false → AreKnown (earlier ++ spot ∷ []) new
 known_more earlier spot old new known is fresh = record {
   content_type = is.content_type
@@ -225,7 +227,8 @@ filter-append {A = A} p (x ∷ xs) ys =
 
 kept-append : (earlier : List Spot) (spot : Spot) → sequences_at (earlier ++ spot ∷ []) ≡ sequences_at earlier ++ sequences_at (spot ∷ [])
 kept-append earlier spot =
-    ap sequences_of (map-append whole_at earlier (spot ∷ [])) ∙ filter-append (λ item. slice_index item 0 == SEQUENCE) (map whole_at earlier) (whole_at spot ∷ [])
+    ap sequences_of (map-append whole_at earlier (spot ∷ []))
+    ∙ filter-append (λ item. slice_index item 0 == SEQUENCE) (map whole_at earlier) (whole_at spot ∷ [])
 
 pub kept_more : (earlier : List Spot) (spot : Spot) → tag_at spot ≡ SEQUENCE → sequences_at earlier ++ whole_at spot ∷ [] ≡ sequences_at (earlier ++ spot ∷ [])
 kept_more earlier spot is =

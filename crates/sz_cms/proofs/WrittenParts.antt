@@ -46,7 +46,8 @@ all_kept : (items : List (List ℕ)) → AllByRecursion IsSequence items → seq
 all_kept [] each = refl
 all_kept (item ∷ items) each = rw (begins each.0.0 item each.0.1) (ap (λ (rest : List (List ℕ)). item ∷ rest) (all_kept items each.1))
 
-pub choices_written : (most tag : ℕ) (items : List (List ℕ)) (content bytes : List ℕ) → content ≡ concat items → Der tag content bytes → AreSequences most items →
+pub choices_written : (most tag : ℕ) (items : List (List ℕ)) (content bytes : List ℕ) → content ≡ concat items →
+    Der tag content bytes → AreSequences most items →
     IsChoicesField most tag items bytes
 choices_written most tag items content bytes is item are =
     inr (
@@ -112,7 +113,8 @@ pub signer_written : (issuer serial attributes signature version identifier dige
     IsAlgorithm (record { identifier = HSS_LMS; parameters = [] }) algorithm → Der OCTET_STRING signature octets →
     Der SEQUENCE (concat (version ∷ identifier ∷ digest ∷ (CONTEXT_CONSTRUCTED ∷ drop 1 attributes) ∷ algorithm ∷ octets ∷ [])) bytes →
     (kind content : List ℕ) → AreAttributesOf kind content attributes → IsSigner (written_signer kind content issuer serial attributes signature) bytes
-signer_written issuer serial attributes signature version identifier digest algorithm octets bytes is_version is_identifier is_digest is_algorithm is_octets item kind content are =
+signer_written issuer serial attributes signature version identifier digest algorithm octets bytes
+    is_version is_identifier is_digest is_algorithm is_octets item kind content are =
     record {
       parts = record {
         version = version;
@@ -149,7 +151,8 @@ pub message_written : (kind content signer : List ℕ) (certs : List (List ℕ))
     IsContent kind (Some content) encapsulated → IsChoicesField MOST_CERTS CONTEXT_CONSTRUCTED certs field → Der SET signer signers →
     Der SEQUENCE (concat (version ∷ algorithms ∷ encapsulated ∷ field ∷ signers ∷ [])) bytes →
     (whole : Signer) → IsSigner whole signer → IsSigned (message_signed kind content certs whole) bytes
-message_written kind content signer certs version digest algorithms encapsulated field signers bytes is_version is_digest is_set is_content are_certs is_signers item whole is =
+message_written kind content signer certs version digest algorithms encapsulated field signers bytes
+    is_version is_digest is_set is_content are_certs is_signers item whole is =
     record {
       parts = record { version = version; algorithms = algorithms; content = encapsulated; certs = field; crls = []; signers = signers };
       is_version = is_version;

@@ -30,7 +30,8 @@ end spot = no_end kind.Der kind.Shape spot
 -- the rules on items one after another, each after those at the earlier spots
 abbrev pub each_after : (List Spot → Spot → Option Fault) → List Spot → List Spot → Option Fault
 each_after fault earlier [] = None
-each_after fault earlier (spot ∷ later) = first_of (fault earlier spot ∷ each_after fault (earlier ++ spot ∷ []) later ∷ [])
+each_after fault earlier (spot ∷ later) =
+    first_of (fault earlier spot ∷ each_after fault (earlier ++ spot ∷ []) later ∷ [])
 
 -- on all items from a spot on
 abbrev pub each_from : (List Spot → Spot → Option Fault) → Spot → Option Fault

@@ -37,7 +37,8 @@ fn read_attributes<'a>(field: &Item<'a>) -> Result<SignedAttributes<'a>, InfoFau
     ensures ok { OnOk result ((spot : Spot) → IsItemAt spot field.now → known_fault spot ≡ None) }
     ensures attributes { IfOk result (λ attributes. (spot : Spot) → IsItemAt spot field.now
         → attributes_of (Some attributes) ≡ Some (known_at spot)) }
-    ensures fault { IfErr result (λ fault. (spot : Spot) → IsItemAt spot field.now → known_fault spot ≡ Some (at fault)) }
+    ensures fault { IfErr result (λ fault. (spot : Spot) → IsItemAt spot field.now
+        → known_fault spot ≡ Some (at fault)) }
 {
     let known = read_known(&parts_of(field))?;
     match known.both() {

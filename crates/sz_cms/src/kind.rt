@@ -1,6 +1,6 @@
 //! The types of content that are told apart.
 
-ghost use Rattle.std.specs.Prelude.{◌≡◌, ℕ, List};
+ghost use Rattle.std.specs.Prelude.{◌≡◌};
 ghost use Rattle.sz_cms.specs.Kind.{identifier_of, IsKindOf};
 
 use crate::identifier::{CONVEYED_JSON, CONVEYED_XML, DATA, ENVELOPED_DATA, VOUCHER};

@@ -1,6 +1,6 @@
 //! The reader of a message and of signed data.
 
-ghost use Rattle.std.specs.Prelude.{◌≡◌, ◌<◌, ℕ, None, Some, OnOk, IfErr, IfOk, map};
+ghost use Rattle.std.specs.Prelude.{◌≡◌, ◌<◌, None, Some, OnOk, IfErr, IfOk, map};
 ghost use Rattle.std.specs.Option.{option_copied};
 ghost use Rattle.sz_der.specs.declared.tag.TheConstants.{CONTEXT_CONSTRUCTED};
 ghost use Rattle.sz_cms.specs.MessageFault.{algorithm_fault, algorithms_fault, choice_fault, choices_fault, content_fault, content_field_fault, each_from, info_fault, inner_fault, octets_fault, sequences_at, signed_fault, signed_parts_fault, signer_fault, signers_fault};
@@ -135,7 +135,8 @@ fn take_encapsulated<'a>(
 ) -> Result<(&'a [u8], Option<&'a [u8]>), InfoFault>
     ensures ok { OnOk result (content_fault (spot_of reader.old) ≡ None) }
     ensures kind { IfOk result (λ found. found.0.now ≡ content_at (inside (spot_of reader.old))) }
-    ensures content { IfOk result (λ found. option_copied found.1 ≡ content_field_at (after (inside (spot_of reader.old)))) }
+    ensures content { IfOk result (λ found. option_copied found.1
+        ≡ content_field_at (after (inside (spot_of reader.old)))) }
     ensures next { OnOk result (spot_of reader.new ≡ after (spot_of reader.old)) }
     ensures fault { IfErr result (λ fault. content_fault (spot_of reader.old) ≡ Some (at fault)) }
 {

@@ -1,6 +1,6 @@
 //! The writers of messages: plain ones, signed ones of one signer, and certificates alone.
 
-ghost use Rattle.std.specs.Prelude.{◌≡◌, ◌≢◌, ◌+◌, ◌%◌, ◌<◌, ℕ, List, [], ◌∷◌, ◌++◌, drop, map, Some, IfOk};
+ghost use Rattle.std.specs.Prelude.{◌≡◌, ◌≢◌, ◌+◌, ◌%◌, ◌<◌, ℕ, List, [], ◌∷◌, drop, map, Some, IfOk};
 ghost use Rattle.std.specs.List.{concat};
 ghost use Rattle.std.specs.Option.{option_copied};
 ghost use Rattle.sz_der.specs.Der.{Der};
@@ -56,13 +56,14 @@ pub fn write_signed(
     requires certs { AreSequences MOST_CERTS certs.now }
     requires signer { NamesSigner issuer.now serial.now }
     requires attributes { AreAttributesOf (identifier_of kind) content.now attributes.now }
-    ensures written { IfOk result (λ bytes. InfoOf bytes (SignedData (message_signed (identifier_of kind.entry) content.now
-        certs.now (written_signer (identifier_of kind.entry) content.now issuer.now serial.now attributes.now signature.now)))) }
+    ensures written { IfOk result (λ bytes. InfoOf bytes (SignedData (message_signed (identifier_of kind.entry)
+        content.now certs.now (written_signer (identifier_of kind.entry) content.now issuer.now serial.now
+        attributes.now signature.now)))) }
     // The signature is over what was signed, and the digest that was signed is that of the content.
-    ensures covered { covered_of (written_signer (identifier_of kind.entry) content.now issuer.now serial.now attributes.now
-        signature.now) content.now ≡ attributes.now }
-    ensures fits { DigestFits (written_signer (identifier_of kind.entry) content.now issuer.now serial.now attributes.now
-        signature.now) (identifier_of kind.entry) content.now }
+    ensures covered { covered_of (written_signer (identifier_of kind.entry) content.now issuer.now serial.now
+        attributes.now signature.now) content.now ≡ attributes.now }
+    ensures fits { DigestFits (written_signer (identifier_of kind.entry) content.now issuer.now serial.now
+        attributes.now signature.now) (identifier_of kind.entry) content.now }
 {
     let signer = signer_info(alloc, issuer, serial, attributes, signature)?;
     let signed = signed_data(alloc, kind, content, certs, signer.as_slice())?;

@@ -19,7 +19,12 @@ returns-in-Some-clause-ok c =
 pub returns-in-Some-clause-attributes : goal.returns-in-Some-clause-attributes
 unfolding known_at value_in
 returns-in-Some-clause-attributes c =
-    λ spot is. rw (is.whole, ← c.parts_of.ensures spot is, sym c.in_ok-known.ensures.known.content_type ∙ c.in-Some.ensures.some.0, sym c.in_ok-known.ensures.known.digest ∙ c.in-Some.ensures.some.1) refl
+    λ spot is. rw (
+      is.whole,
+      ← c.parts_of.ensures spot is,
+      sym c.in_ok-known.ensures.known.content_type ∙ c.in-Some.ensures.some.0,
+      sym c.in_ok-known.ensures.known.digest ∙ c.in-Some.ensures.some.1,
+    ) refl
 
 pub returns-in-None-clause-fault : goal.returns-in-None-clause-fault
 unfolding known_fault

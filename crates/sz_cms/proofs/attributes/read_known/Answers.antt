@@ -12,25 +12,41 @@ loop-known-init c =
 
 pub loop-known-smaller : goal.loop-known-smaller
 loop-known-smaller c =
-    shorter c.loop-known.each c.take_attribute.new.reader (not_at_end c.loop-known.each c.is_at_end.result c.is_at_end.ensures c.loop-known-test.true) c.in_ok-known.ensures.next
+    let more = not_at_end c.loop-known.each c.is_at_end.result c.is_at_end.ensures c.loop-known-test.true in
+    shorter c.loop-known.each c.take_attribute.new.reader more c.in_ok-known.ensures.next
 
 pub loop-known-preserved : goal.loop-known-preserved
 loop-known-preserved c =
+    let start = spot_of c.args.first.now in
+    let now = spot_of c.loop-known.each in
+    let more = not_at_end c.loop-known.each c.is_at_end.result c.is_at_end.ensures c.loop-known-test.true in
     let inv = c.loop-known.invariant in (
-      inv.0 ++ spot_of c.loop-known.each ∷ [],
-      rw c.in_ok-known.ensures.next (walks_step attribute_fault (spot_of c.args.first.now) inv.0 (spot_of c.loop-known.each) inv.1 (not_at_end c.loop-known.each c.is_at_end.result c.is_at_end.ensures c.loop-known-test.true) (c.in_ok-known.ensures.ok inv.0 inv.2)),
+      inv.0 ++ now ∷ [],
+      rw c.in_ok-known.ensures.next (walks_step attribute_fault start inv.0 now inv.1 more (c.in_ok-known.ensures.ok inv.0 inv.2)),
       c.in_ok-known.ensures.known inv.0 inv.2,
     )
 
 pub returns-in_err-known-clause-fault : goal.returns-in_err-known-clause-fault
 returns-in_err-known-clause-fault c =
-    let inv = c.loop-known.invariant in exit _ _ c.in_err-known.field-0.0 c.from_residual.ensures.1
-    (walks_fault attribute_fault (spot_of c.args.first.now) inv.0 (spot_of c.loop-known.each) _ inv.1 (not_at_end c.loop-known.each c.is_at_end.result c.is_at_end.ensures c.loop-known-test.true) (c.in_err-known.ensures.fault inv.0 inv.2))
+    let start = spot_of c.args.first.now in
+    let now = spot_of c.loop-known.each in
+    let more = not_at_end c.loop-known.each c.is_at_end.result c.is_at_end.ensures c.loop-known-test.true in
+    let inv = c.loop-known.invariant in
+    exit _ _ c.in_err-known.field-0.0 c.from_residual.ensures.1
+    (walks_fault attribute_fault start inv.0 now _ inv.1 more (c.in_err-known.ensures.fault inv.0 inv.2))
 
 pub returns-clause-ok : goal.returns-clause-ok
 returns-clause-ok c =
-    let inv = c.loop-known.invariant in (walks_end attribute_fault (spot_of c.args.first.now) inv.0 (spot_of c.loop-known.each) inv.1 (at_end_is c.loop-known.each (c.is_at_end.ensures.0 c.loop-known-test.false))).0
+    let start = spot_of c.args.first.now in
+    let now = spot_of c.loop-known.each in
+    let at_end = at_end_is c.loop-known.each (c.is_at_end.ensures.0 c.loop-known-test.false) in
+    let inv = c.loop-known.invariant in
+    (walks_end attribute_fault start inv.0 now inv.1 at_end).0
 
 pub returns-clause-known : goal.returns-clause-known
 returns-clause-known c =
-    let inv = c.loop-known.invariant in rw (walks_end attribute_fault (spot_of c.args.first.now) inv.0 (spot_of c.loop-known.each) inv.1 (at_end_is c.loop-known.each (c.is_at_end.ensures.0 c.loop-known-test.false))).1 inv.2
+    let start = spot_of c.args.first.now in
+    let now = spot_of c.loop-known.each in
+    let at_end = at_end_is c.loop-known.each (c.is_at_end.ensures.0 c.loop-known-test.false) in
+    let inv = c.loop-known.invariant in
+    rw (walks_end attribute_fault start inv.0 now inv.1 at_end).1 inv.2

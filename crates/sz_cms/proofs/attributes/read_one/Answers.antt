@@ -19,9 +19,19 @@ pub returns-in_err-expect_end-clause-fault : goal.returns-in_err-expect_end-clau
 unfolding one_fault
 returns-in_err-expect_end-clause-fault c =
     exit _ _ c.in_err-expect_end.field-0.0 c.from_residual-in_err-expect_end.ensures.1
-    (rw (not_at_end c.args.first.now c.is_at_end.result c.is_at_end.ensures c.if-is_at_end.false, c.in_ok-value.ensures.ok, ← c.in_ok-value.ensures.next, c.in_err-expect_end.ensures.fault) refl)
+    (rw (
+      not_at_end c.args.first.now c.is_at_end.result c.is_at_end.ensures c.if-is_at_end.false,
+      c.in_ok-value.ensures.ok,
+      ← c.in_ok-value.ensures.next,
+      c.in_err-expect_end.ensures.fault,
+    ) refl)
 
 pub returns-clause-ok : goal.returns-clause-ok
 unfolding one_fault
 returns-clause-ok c =
-    rw (not_at_end c.args.first.now c.is_at_end.result c.is_at_end.ensures c.if-is_at_end.false, c.in_ok-value.ensures.ok, ← c.in_ok-value.ensures.next, c.in_ok-expect_end.ensures.ok) refl
+    rw (
+      not_at_end c.args.first.now c.is_at_end.result c.is_at_end.ensures c.if-is_at_end.false,
+      c.in_ok-value.ensures.ok,
+      ← c.in_ok-value.ensures.next,
+      c.in_ok-expect_end.ensures.ok,
+    ) refl

@@ -30,12 +30,20 @@ pub returns-in_err-attributes-clause-fault : goal.returns-in_err-attributes-clau
 unfolding attributes_fault
 returns-in_err-attributes-clause-fault c =
     exit _ _ c.in_err-attributes.field-0.0 c.from_residual-in_err-attributes.ensures.1
-    (rw (sym c.is_next.ensures ∙ c.if-not-is_next.false, c.in_ok-field.ensures.ok, c.in_err-attributes.ensures.fault (spot_of c.args.reader.now) c.in_ok-field.ensures.item) refl)
+    (rw (
+      sym c.is_next.ensures ∙ c.if-not-is_next.false,
+      c.in_ok-field.ensures.ok,
+      c.in_err-attributes.ensures.fault (spot_of c.args.reader.now) c.in_ok-field.ensures.item,
+    ) refl)
 
 pub returns-clause-ok : goal.returns-clause-ok
 unfolding attributes_fault
 returns-clause-ok c =
-    rw (sym c.is_next.ensures ∙ c.if-not-is_next.false, c.in_ok-field.ensures.ok, c.in_ok-attributes.ensures.ok (spot_of c.args.reader.now) c.in_ok-field.ensures.item) refl
+    rw (
+      sym c.is_next.ensures ∙ c.if-not-is_next.false,
+      c.in_ok-field.ensures.ok,
+      c.in_ok-attributes.ensures.ok (spot_of c.args.reader.now) c.in_ok-field.ensures.item,
+    ) refl
 
 pub returns-clause-attributes : goal.returns-clause-attributes
 unfolding attributes_at

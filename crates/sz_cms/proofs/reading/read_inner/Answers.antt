@@ -10,7 +10,10 @@ use Rattle.std.specs.Prelude.{bytes_eq}
 pub returns-in_err-signed-clause-fault : goal.returns-in_err-signed-clause-fault
 unfolding inner_fault
 returns-in_err-signed-clause-fault c =
-    exit _ _ c.in_err-signed.field-0.0 c.from_residual.ensures.1 (rw (ap (λ (x : List ℕ). bytes_eq c.args.identifier.now x) (sym c.as_slice.ensures) ∙ sym c.if-eq.ensures, c.in_err-signed.ensures.fault) refl)
+    exit _ _ c.in_err-signed.field-0.0 c.from_residual.ensures.1 (rw (
+      ap (λ (x : List ℕ). bytes_eq c.args.identifier.now x) (sym c.as_slice.ensures) ∙ sym c.if-eq.ensures,
+      c.in_err-signed.ensures.fault,
+    ) refl)
 
 pub returns-then-eq-clause-ok : goal.returns-then-eq-clause-ok
 unfolding inner_fault
@@ -25,12 +28,19 @@ returns-then-eq-clause-info c =
 pub returns-then-eq-2-clause-ok : goal.returns-then-eq-2-clause-ok
 unfolding inner_fault
 returns-then-eq-2-clause-ok c =
-    rw (ap (λ (x : List ℕ). bytes_eq c.args.identifier.now x) (sym c.as_slice.ensures) ∙ sym c.if-eq.ensures, ap (λ (x : List ℕ). bytes_eq c.args.identifier.now x) (sym c.as_slice-2.ensures) ∙ sym c.if-eq-2.ensures) refl
+    rw (
+      ap (λ (x : List ℕ). bytes_eq c.args.identifier.now x) (sym c.as_slice.ensures) ∙ sym c.if-eq.ensures,
+      ap (λ (x : List ℕ). bytes_eq c.args.identifier.now x) (sym c.as_slice-2.ensures) ∙ sym c.if-eq-2.ensures,
+    ) refl
 
 pub returns-then-eq-2-clause-info : goal.returns-then-eq-2-clause-info
 unfolding inner_at
 returns-then-eq-2-clause-info c =
-    rw (ap (λ (x : List ℕ). bytes_eq c.args.identifier.now x) (sym c.as_slice.ensures) ∙ sym c.if-eq.ensures, ap (λ (x : List ℕ). bytes_eq c.args.identifier.now x) (sym c.as_slice-2.ensures) ∙ sym c.if-eq-2.ensures, kind_identifier c.of-kind.result c.args.identifier.now c.of-kind.ensures) refl
+    rw (
+      ap (λ (x : List ℕ). bytes_eq c.args.identifier.now x) (sym c.as_slice.ensures) ∙ sym c.if-eq.ensures,
+      ap (λ (x : List ℕ). bytes_eq c.args.identifier.now x) (sym c.as_slice-2.ensures) ∙ sym c.if-eq-2.ensures,
+      kind_identifier c.of-kind.result c.args.identifier.now c.of-kind.ensures,
+    ) refl
 
 pub returns-then-eq-2-clause-named : goal.returns-then-eq-2-clause-named
 returns-then-eq-2-clause-named c =
@@ -39,17 +49,30 @@ returns-then-eq-2-clause-named c =
 pub returns-in_err-content-clause-fault : goal.returns-in_err-content-clause-fault
 unfolding inner_fault
 returns-in_err-content-clause-fault c =
-    exit _ _ c.in_err-content.field-0.0 c.from_residual-in_err-content.ensures.1 (rw (ap (λ (x : List ℕ). bytes_eq c.args.identifier.now x) (sym c.as_slice.ensures) ∙ sym c.if-eq.ensures, ap (λ (x : List ℕ). bytes_eq c.args.identifier.now x) (sym c.as_slice-2.ensures) ∙ sym c.if-eq-2.ensures, c.in_err-content.ensures.fault) refl)
+    exit _ _ c.in_err-content.field-0.0 c.from_residual-in_err-content.ensures.1 (rw (
+      ap (λ (x : List ℕ). bytes_eq c.args.identifier.now x) (sym c.as_slice.ensures) ∙ sym c.if-eq.ensures,
+      ap (λ (x : List ℕ). bytes_eq c.args.identifier.now x) (sym c.as_slice-2.ensures) ∙ sym c.if-eq-2.ensures,
+      c.in_err-content.ensures.fault,
+    ) refl)
 
 pub returns-clause-ok : goal.returns-clause-ok
 unfolding inner_fault
 returns-clause-ok c =
-    rw (ap (λ (x : List ℕ). bytes_eq c.args.identifier.now x) (sym c.as_slice.ensures) ∙ sym c.if-eq.ensures, ap (λ (x : List ℕ). bytes_eq c.args.identifier.now x) (sym c.as_slice-2.ensures) ∙ sym c.if-eq-2.ensures, c.in_ok-content.ensures.ok) refl
+    rw (
+      ap (λ (x : List ℕ). bytes_eq c.args.identifier.now x) (sym c.as_slice.ensures) ∙ sym c.if-eq.ensures,
+      ap (λ (x : List ℕ). bytes_eq c.args.identifier.now x) (sym c.as_slice-2.ensures) ∙ sym c.if-eq-2.ensures,
+      c.in_ok-content.ensures.ok,
+    ) refl
 
 pub returns-clause-info : goal.returns-clause-info
 unfolding inner_at
 returns-clause-info c =
-    rw (ap (λ (x : List ℕ). bytes_eq c.args.identifier.now x) (sym c.as_slice.ensures) ∙ sym c.if-eq.ensures, ap (λ (x : List ℕ). bytes_eq c.args.identifier.now x) (sym c.as_slice-2.ensures) ∙ sym c.if-eq-2.ensures, kind_identifier c.of-kind.result c.args.identifier.now c.of-kind.ensures, c.in_ok-content.ensures.content) refl
+    rw (
+      ap (λ (x : List ℕ). bytes_eq c.args.identifier.now x) (sym c.as_slice.ensures) ∙ sym c.if-eq.ensures,
+      ap (λ (x : List ℕ). bytes_eq c.args.identifier.now x) (sym c.as_slice-2.ensures) ∙ sym c.if-eq-2.ensures,
+      kind_identifier c.of-kind.result c.args.identifier.now c.of-kind.ensures,
+      c.in_ok-content.ensures.content,
+    ) refl
 
 pub returns-clause-named : goal.returns-clause-named
 returns-clause-named c =

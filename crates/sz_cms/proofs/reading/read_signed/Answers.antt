@@ -18,7 +18,13 @@ pub returns-in_err-expect_end-clause-fault : goal.returns-in_err-expect_end-clau
 unfolding signed_fault
 returns-in_err-expect_end-clause-fault c =
     exit _ _ c.in_err-expect_end.field-0.0 c.from_residual-in_err-expect_end.ensures.1
-    (rw (c.in_ok-data.ensures.ok, ← c.in_ok-data.ensures.inside, c.in_ok-signed.ensures.ok, ← c.in_ok-data.ensures.next, c.in_err-expect_end.ensures.fault) refl)
+    (rw (
+      c.in_ok-data.ensures.ok,
+      ← c.in_ok-data.ensures.inside,
+      c.in_ok-signed.ensures.ok,
+      ← c.in_ok-data.ensures.next,
+      c.in_err-expect_end.ensures.fault,
+    ) refl)
 
 pub returns-clause-ok : goal.returns-clause-ok
 unfolding signed_fault

@@ -23,36 +23,100 @@ pub returns-in_err-identifier-clause-fault : goal.returns-in_err-identifier-clau
 unfolding signed_parts_fault
 returns-in_err-identifier-clause-fault c =
     exit _ _ c.in_err-identifier.field-0.0 c.from_residual-in_err-identifier.ensures.1
-    (rw (c.in_ok-take_integer.ensures.ok, ← c.in_ok-take_integer.ensures.next, c.in_ok-take_algorithms.ensures.ok, ← c.in_ok-take_algorithms.ensures.next, c.in_err-identifier.ensures.fault) refl)
+    (rw (
+      c.in_ok-take_integer.ensures.ok,
+      ← c.in_ok-take_integer.ensures.next,
+      c.in_ok-take_algorithms.ensures.ok,
+      ← c.in_ok-take_algorithms.ensures.next,
+      c.in_err-identifier.ensures.fault,
+    ) refl)
 
 pub returns-in_err-certs-clause-fault : goal.returns-in_err-certs-clause-fault
 unfolding signed_parts_fault
 returns-in_err-certs-clause-fault c =
     exit _ _ c.in_err-certs.field-0.0 c.from_residual-in_err-certs.ensures.1
-    (rw (c.in_ok-take_integer.ensures.ok, ← c.in_ok-take_integer.ensures.next, c.in_ok-take_algorithms.ensures.ok, ← c.in_ok-take_algorithms.ensures.next, c.in_ok-identifier.ensures.ok, ← c.in_ok-identifier.ensures.next, c.in_err-certs.ensures.fault) refl)
+    (rw (
+      c.in_ok-take_integer.ensures.ok,
+      ← c.in_ok-take_integer.ensures.next,
+      c.in_ok-take_algorithms.ensures.ok,
+      ← c.in_ok-take_algorithms.ensures.next,
+      c.in_ok-identifier.ensures.ok,
+      ← c.in_ok-identifier.ensures.next,
+      c.in_err-certs.ensures.fault,
+    ) refl)
 
 pub returns-in_err-crls-clause-fault : goal.returns-in_err-crls-clause-fault
 unfolding signed_parts_fault
 returns-in_err-crls-clause-fault c =
     exit _ _ c.in_err-crls.field-0.0 c.from_residual-in_err-crls.ensures.1
-    (rw (c.in_ok-take_integer.ensures.ok, ← c.in_ok-take_integer.ensures.next, c.in_ok-take_algorithms.ensures.ok, ← c.in_ok-take_algorithms.ensures.next, c.in_ok-identifier.ensures.ok, ← c.in_ok-identifier.ensures.next, c.in_ok-certs.ensures.ok, ← c.in_ok-certs.ensures.next, c.in_err-crls.ensures.fault) refl)
+    (rw (
+      c.in_ok-take_integer.ensures.ok,
+      ← c.in_ok-take_integer.ensures.next,
+      c.in_ok-take_algorithms.ensures.ok,
+      ← c.in_ok-take_algorithms.ensures.next,
+      c.in_ok-identifier.ensures.ok,
+      ← c.in_ok-identifier.ensures.next,
+      c.in_ok-certs.ensures.ok,
+      ← c.in_ok-certs.ensures.next,
+      c.in_err-crls.ensures.fault,
+    ) refl)
 
 pub returns-in_err-signers-clause-fault : goal.returns-in_err-signers-clause-fault
 unfolding signed_parts_fault
 returns-in_err-signers-clause-fault c =
     exit _ _ c.in_err-signers.field-0.0 c.from_residual-in_err-signers.ensures.1
-    (rw (c.in_ok-take_integer.ensures.ok, ← c.in_ok-take_integer.ensures.next, c.in_ok-take_algorithms.ensures.ok, ← c.in_ok-take_algorithms.ensures.next, c.in_ok-identifier.ensures.ok, ← c.in_ok-identifier.ensures.next, c.in_ok-certs.ensures.ok, ← c.in_ok-certs.ensures.next, c.in_ok-crls.ensures.ok, ← c.in_ok-crls.ensures.next, c.in_err-signers.ensures.fault) refl)
+    (rw (
+      c.in_ok-take_integer.ensures.ok,
+      ← c.in_ok-take_integer.ensures.next,
+      c.in_ok-take_algorithms.ensures.ok,
+      ← c.in_ok-take_algorithms.ensures.next,
+      c.in_ok-identifier.ensures.ok,
+      ← c.in_ok-identifier.ensures.next,
+      c.in_ok-certs.ensures.ok,
+      ← c.in_ok-certs.ensures.next,
+      c.in_ok-crls.ensures.ok,
+      ← c.in_ok-crls.ensures.next,
+      c.in_err-signers.ensures.fault,
+    ) refl)
 
 pub returns-in_err-expect_end-clause-fault : goal.returns-in_err-expect_end-clause-fault
 unfolding signed_parts_fault
 returns-in_err-expect_end-clause-fault c =
     exit _ _ c.in_err-expect_end.field-0.0 c.from_residual-in_err-expect_end.ensures.1
-    (rw (c.in_ok-take_integer.ensures.ok, ← c.in_ok-take_integer.ensures.next, c.in_ok-take_algorithms.ensures.ok, ← c.in_ok-take_algorithms.ensures.next, c.in_ok-identifier.ensures.ok, ← c.in_ok-identifier.ensures.next, c.in_ok-certs.ensures.ok, ← c.in_ok-certs.ensures.next, c.in_ok-crls.ensures.ok, ← c.in_ok-crls.ensures.next, c.in_ok-signers.ensures.ok, ← c.in_ok-signers.ensures.next, c.in_err-expect_end.ensures.fault) refl)
+    (rw (
+      c.in_ok-take_integer.ensures.ok,
+      ← c.in_ok-take_integer.ensures.next,
+      c.in_ok-take_algorithms.ensures.ok,
+      ← c.in_ok-take_algorithms.ensures.next,
+      c.in_ok-identifier.ensures.ok,
+      ← c.in_ok-identifier.ensures.next,
+      c.in_ok-certs.ensures.ok,
+      ← c.in_ok-certs.ensures.next,
+      c.in_ok-crls.ensures.ok,
+      ← c.in_ok-crls.ensures.next,
+      c.in_ok-signers.ensures.ok,
+      ← c.in_ok-signers.ensures.next,
+      c.in_err-expect_end.ensures.fault,
+    ) refl)
 
 pub returns-clause-ok : goal.returns-clause-ok
 unfolding signed_parts_fault
 returns-clause-ok c =
-    rw (c.in_ok-take_integer.ensures.ok, ← c.in_ok-take_integer.ensures.next, c.in_ok-take_algorithms.ensures.ok, ← c.in_ok-take_algorithms.ensures.next, c.in_ok-identifier.ensures.ok, ← c.in_ok-identifier.ensures.next, c.in_ok-certs.ensures.ok, ← c.in_ok-certs.ensures.next, c.in_ok-crls.ensures.ok, ← c.in_ok-crls.ensures.next, c.in_ok-signers.ensures.ok, ← c.in_ok-signers.ensures.next, c.in_ok-expect_end.ensures.ok) refl
+    rw (
+      c.in_ok-take_integer.ensures.ok,
+      ← c.in_ok-take_integer.ensures.next,
+      c.in_ok-take_algorithms.ensures.ok,
+      ← c.in_ok-take_algorithms.ensures.next,
+      c.in_ok-identifier.ensures.ok,
+      ← c.in_ok-identifier.ensures.next,
+      c.in_ok-certs.ensures.ok,
+      ← c.in_ok-certs.ensures.next,
+      c.in_ok-crls.ensures.ok,
+      ← c.in_ok-crls.ensures.next,
+      c.in_ok-signers.ensures.ok,
+      ← c.in_ok-signers.ensures.next,
+      c.in_ok-expect_end.ensures.ok,
+    ) refl
 
 pub returns-clause-signed : goal.returns-clause-signed
 unfolding signed_from
@@ -63,7 +127,8 @@ returns-clause-signed c =
     let four = c.in_ok-certs.ensures.next ∙ ap (after_optional CONTEXT_CONSTRUCTED) three in
     let five = c.in_ok-crls.ensures.next ∙ ap (after_optional crls_tag) four in
     same_signed _ _ _ _ _ _ _ _ _ _
-    (kind_identifier c.of.result c.in_ok-identifier.identifier.now c.of.ensures ∙ c.in_ok-identifier.ensures.kind ∙ ap (λ (spot : Spot). content_at (inside spot)) two)
+    (kind_identifier c.of.result c.in_ok-identifier.identifier.now c.of.ensures ∙ c.in_ok-identifier.ensures.kind
+    ∙ ap (λ (spot : Spot). content_at (inside spot)) two)
     (c.in_ok-identifier.ensures.content ∙ ap (λ (spot : Spot). content_field_at (after (inside spot))) two)
     (c.in_ok-certs.ensures.kept ∙ ap (choices_at CONTEXT_CONSTRUCTED) three) (c.in_ok-crls.ensures.kept ∙ ap (choices_at crls_tag) four)
     (c.in_ok-signers.ensures.signers ∙ ap signers_at five)

@@ -12,9 +12,17 @@ returns-in_err-each-clause-fault c =
 pub returns-clause-ok : goal.returns-clause-ok
 unfolding algorithms_fault
 returns-clause-ok c =
-    MatchResult-weaker c.read_algorithms.result c.read_algorithms.ensures.ok (λ x e. rw (c.in_ok-each.ensures.ok, ← c.in_ok-each.ensures.inside, e) refl) (λ x p. p)
+    MatchResult-weaker c.read_algorithms.result c.read_algorithms.ensures.ok (λ x e. rw (
+      c.in_ok-each.ensures.ok,
+      ← c.in_ok-each.ensures.inside,
+      e,
+    ) refl) (λ x p. p)
 
 pub returns-clause-fault : goal.returns-clause-fault
 unfolding algorithms_fault
 returns-clause-fault c =
-    MatchResult-weaker c.read_algorithms.result c.read_algorithms.ensures.fault (λ x p. p) (λ x e. rw (c.in_ok-each.ensures.ok, ← c.in_ok-each.ensures.inside, e) refl)
+    MatchResult-weaker c.read_algorithms.result c.read_algorithms.ensures.fault (λ x p. p) (λ x e. rw (
+      c.in_ok-each.ensures.ok,
+      ← c.in_ok-each.ensures.inside,
+      e,
+    ) refl)

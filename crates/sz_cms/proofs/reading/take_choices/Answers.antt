@@ -30,7 +30,12 @@ returns-in_err-field-clause-fault g c =
 pub returns-clause-ok : goal.returns-clause-ok
 unfolding choices_fault
 returns-clause-ok g c =
-    MatchResult-weaker c.read_choices.result c.read_choices.ensures.ok (λ x e. rw (sym c.is_next.ensures ∙ c.if-not-is_next.false, c.in_ok-field.ensures.ok, ← c.parts_of.ensures (spot_of c.args.reader.now) c.in_ok-field.ensures.item, e) refl) (λ x p. p)
+    MatchResult-weaker c.read_choices.result c.read_choices.ensures.ok (λ x e. rw (
+      sym c.is_next.ensures ∙ c.if-not-is_next.false,
+      c.in_ok-field.ensures.ok,
+      ← c.parts_of.ensures (spot_of c.args.reader.now) c.in_ok-field.ensures.item,
+      e,
+    ) refl) (λ x p. p)
 
 pub returns-clause-kept : goal.returns-clause-kept
 unfolding choices_at
@@ -39,9 +44,15 @@ returns-clause-kept g c =
 
 pub returns-clause-next : goal.returns-clause-next
 returns-clause-next g c =
-    on_ok c.read_choices.result (c.in_ok-field.ensures.next ∙ sym (after_next c.args.tag (spot_of c.args.reader.now) (sym c.is_next.ensures ∙ c.if-not-is_next.false)))
+    on_ok c.read_choices.result
+    (c.in_ok-field.ensures.next ∙ sym (after_next c.args.tag (spot_of c.args.reader.now) (sym c.is_next.ensures ∙ c.if-not-is_next.false)))
 
 pub returns-clause-fault : goal.returns-clause-fault
 unfolding choices_fault
 returns-clause-fault g c =
-    MatchResult-weaker c.read_choices.result c.read_choices.ensures.fault (λ x p. p) (λ x e. rw (sym c.is_next.ensures ∙ c.if-not-is_next.false, c.in_ok-field.ensures.ok, ← c.parts_of.ensures (spot_of c.args.reader.now) c.in_ok-field.ensures.item, e) refl)
+    MatchResult-weaker c.read_choices.result c.read_choices.ensures.fault (λ x p. p) (λ x e. rw (
+      sym c.is_next.ensures ∙ c.if-not-is_next.false,
+      c.in_ok-field.ensures.ok,
+      ← c.parts_of.ensures (spot_of c.args.reader.now) c.in_ok-field.ensures.item,
+      e,
+    ) refl)

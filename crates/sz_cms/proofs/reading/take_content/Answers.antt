@@ -30,17 +30,30 @@ pub returns-in_err-content-clause-fault : goal.returns-in_err-content-clause-fau
 unfolding content_field_fault
 returns-in_err-content-clause-fault c =
     exit _ _ c.in_err-content.field-0.0 c.from_residual-in_err-content.ensures.1
-    (rw (sym c.is_next.ensures ∙ c.if-not-is_next.false, c.in_ok-field.ensures.ok, ← c.parts_of.ensures (spot_of c.args.reader.now) c.in_ok-field.ensures.item, c.in_err-content.ensures.fault) refl)
+    (rw (
+      sym c.is_next.ensures ∙ c.if-not-is_next.false,
+      c.in_ok-field.ensures.ok,
+      ← c.parts_of.ensures (spot_of c.args.reader.now) c.in_ok-field.ensures.item,
+      c.in_err-content.ensures.fault,
+    ) refl)
 
 pub returns-clause-ok : goal.returns-clause-ok
 unfolding content_field_fault
 returns-clause-ok c =
-    rw (sym c.is_next.ensures ∙ c.if-not-is_next.false, c.in_ok-field.ensures.ok, ← c.parts_of.ensures (spot_of c.args.reader.now) c.in_ok-field.ensures.item, c.in_ok-content.ensures.ok) refl
+    rw (
+      sym c.is_next.ensures ∙ c.if-not-is_next.false,
+      c.in_ok-field.ensures.ok,
+      ← c.parts_of.ensures (spot_of c.args.reader.now) c.in_ok-field.ensures.item,
+      c.in_ok-content.ensures.ok,
+    ) refl
 
 pub returns-clause-content : goal.returns-clause-content
 unfolding content_field_at
 returns-clause-content c =
-    rw (sym c.is_next.ensures ∙ c.if-not-is_next.false, ← c.parts_of.ensures (spot_of c.args.reader.now) c.in_ok-field.ensures.item) (ap (λ (x : List ℕ). Some x) c.in_ok-content.ensures.content)
+    rw (
+      sym c.is_next.ensures ∙ c.if-not-is_next.false,
+      ← c.parts_of.ensures (spot_of c.args.reader.now) c.in_ok-field.ensures.item,
+    ) (ap (λ (x : List ℕ). Some x) c.in_ok-content.ensures.content)
 
 pub returns-clause-next : goal.returns-clause-next
 returns-clause-next c =

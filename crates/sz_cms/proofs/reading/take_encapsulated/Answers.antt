@@ -21,18 +21,40 @@ pub returns-in_err-content-clause-fault : goal.returns-in_err-content-clause-fau
 unfolding content_fault
 returns-in_err-content-clause-fault c =
     exit _ _ c.in_err-content.field-0.0 c.from_residual-in_err-content.ensures.1
-    (rw (c.in_ok-parts.ensures.ok, ← c.in_ok-parts.ensures.inside, c.in_ok-identifier.ensures.ok, ← c.in_ok-identifier.ensures.next, c.in_err-content.ensures.fault) refl)
+    (rw (
+      c.in_ok-parts.ensures.ok,
+      ← c.in_ok-parts.ensures.inside,
+      c.in_ok-identifier.ensures.ok,
+      ← c.in_ok-identifier.ensures.next,
+      c.in_err-content.ensures.fault,
+    ) refl)
 
 pub returns-in_err-expect_end-clause-fault : goal.returns-in_err-expect_end-clause-fault
 unfolding content_fault
 returns-in_err-expect_end-clause-fault c =
     exit _ _ c.in_err-expect_end.field-0.0 c.from_residual-in_err-expect_end.ensures.1
-    (rw (c.in_ok-parts.ensures.ok, ← c.in_ok-parts.ensures.inside, c.in_ok-identifier.ensures.ok, ← c.in_ok-identifier.ensures.next, c.in_ok-content.ensures.ok, ← c.in_ok-content.ensures.next, c.in_err-expect_end.ensures.fault) refl)
+    (rw (
+      c.in_ok-parts.ensures.ok,
+      ← c.in_ok-parts.ensures.inside,
+      c.in_ok-identifier.ensures.ok,
+      ← c.in_ok-identifier.ensures.next,
+      c.in_ok-content.ensures.ok,
+      ← c.in_ok-content.ensures.next,
+      c.in_err-expect_end.ensures.fault,
+    ) refl)
 
 pub returns-clause-ok : goal.returns-clause-ok
 unfolding content_fault
 returns-clause-ok c =
-    rw (c.in_ok-parts.ensures.ok, ← c.in_ok-parts.ensures.inside, c.in_ok-identifier.ensures.ok, ← c.in_ok-identifier.ensures.next, c.in_ok-content.ensures.ok, ← c.in_ok-content.ensures.next, c.in_ok-expect_end.ensures.ok) refl
+    rw (
+      c.in_ok-parts.ensures.ok,
+      ← c.in_ok-parts.ensures.inside,
+      c.in_ok-identifier.ensures.ok,
+      ← c.in_ok-identifier.ensures.next,
+      c.in_ok-content.ensures.ok,
+      ← c.in_ok-content.ensures.next,
+      c.in_ok-expect_end.ensures.ok,
+    ) refl
 
 pub returns-clause-kind : goal.returns-clause-kind
 returns-clause-kind c =

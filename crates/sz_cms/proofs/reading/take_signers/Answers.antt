@@ -18,7 +18,11 @@ returns-clause-ok c =
 pub returns-clause-fault : goal.returns-clause-fault
 unfolding signers_fault
 returns-clause-fault c =
-    MatchResult-weaker c.read_signers.result c.read_signers.ensures.fault (λ x p. p) (λ x e. rw (c.in_ok-each.ensures.ok, ← c.in_ok-each.ensures.inside, e) refl)
+    MatchResult-weaker c.read_signers.result c.read_signers.ensures.fault (λ x p. p) (λ x e. rw (
+      c.in_ok-each.ensures.ok,
+      ← c.in_ok-each.ensures.inside,
+      e,
+    ) refl)
 
 pub returns-clause-signers : goal.returns-clause-signers
 unfolding signers_at

@@ -20,12 +20,24 @@ pub returns-in_err-parameters-clause-fault : goal.returns-in_err-parameters-clau
 unfolding algorithm_fault
 returns-in_err-parameters-clause-fault c =
     exit _ _ c.in_err-parameters.field-0.0 c.from_residual-in_err-parameters.ensures.1
-    (rw (c.in_ok-parts.ensures.ok, ← c.in_ok-parts.ensures.inside, c.in_ok-identifier.ensures.ok, ← c.in_ok-identifier.ensures.next, c.in_err-parameters.ensures.fault) refl)
+    (rw (
+      c.in_ok-parts.ensures.ok,
+      ← c.in_ok-parts.ensures.inside,
+      c.in_ok-identifier.ensures.ok,
+      ← c.in_ok-identifier.ensures.next,
+      c.in_err-parameters.ensures.fault,
+    ) refl)
 
 pub returns-clause-ok : goal.returns-clause-ok
 unfolding algorithm_fault
 returns-clause-ok c =
-    rw (c.in_ok-parts.ensures.ok, ← c.in_ok-parts.ensures.inside, c.in_ok-identifier.ensures.ok, ← c.in_ok-identifier.ensures.next, c.in_ok-parameters.ensures.ok) refl
+    rw (
+      c.in_ok-parts.ensures.ok,
+      ← c.in_ok-parts.ensures.inside,
+      c.in_ok-identifier.ensures.ok,
+      ← c.in_ok-identifier.ensures.next,
+      c.in_ok-parameters.ensures.ok,
+    ) refl
 
 pub returns-clause-algorithm : goal.returns-clause-algorithm
 unfolding algorithm_at

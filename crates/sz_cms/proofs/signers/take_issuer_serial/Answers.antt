@@ -20,18 +20,40 @@ pub returns-in_err-serial-clause-fault : goal.returns-in_err-serial-clause-fault
 unfolding issuer_serial_fault
 returns-in_err-serial-clause-fault c =
     exit _ _ c.in_err-serial.field-0.0 c.from_residual-in_err-serial.ensures.1
-    (rw (c.in_ok-parts.ensures.ok, ← c.in_ok-parts.ensures.inside, c.in_ok-issuer.ensures.ok, ← c.in_ok-issuer.ensures.next, c.in_err-serial.ensures.fault) refl)
+    (rw (
+      c.in_ok-parts.ensures.ok,
+      ← c.in_ok-parts.ensures.inside,
+      c.in_ok-issuer.ensures.ok,
+      ← c.in_ok-issuer.ensures.next,
+      c.in_err-serial.ensures.fault,
+    ) refl)
 
 pub returns-in_err-expect_end-clause-fault : goal.returns-in_err-expect_end-clause-fault
 unfolding issuer_serial_fault
 returns-in_err-expect_end-clause-fault c =
     exit _ _ c.in_err-expect_end.field-0.0 c.from_residual-in_err-expect_end.ensures.1
-    (rw (c.in_ok-parts.ensures.ok, ← c.in_ok-parts.ensures.inside, c.in_ok-issuer.ensures.ok, ← c.in_ok-issuer.ensures.next, c.in_ok-serial.ensures.ok, ← c.in_ok-serial.ensures.next, c.in_err-expect_end.ensures.fault) refl)
+    (rw (
+      c.in_ok-parts.ensures.ok,
+      ← c.in_ok-parts.ensures.inside,
+      c.in_ok-issuer.ensures.ok,
+      ← c.in_ok-issuer.ensures.next,
+      c.in_ok-serial.ensures.ok,
+      ← c.in_ok-serial.ensures.next,
+      c.in_err-expect_end.ensures.fault,
+    ) refl)
 
 pub returns-clause-ok : goal.returns-clause-ok
 unfolding issuer_serial_fault
 returns-clause-ok c =
-    rw (c.in_ok-parts.ensures.ok, ← c.in_ok-parts.ensures.inside, c.in_ok-issuer.ensures.ok, ← c.in_ok-issuer.ensures.next, c.in_ok-serial.ensures.ok, ← c.in_ok-serial.ensures.next, c.in_ok-expect_end.ensures.ok) refl
+    rw (
+      c.in_ok-parts.ensures.ok,
+      ← c.in_ok-parts.ensures.inside,
+      c.in_ok-issuer.ensures.ok,
+      ← c.in_ok-issuer.ensures.next,
+      c.in_ok-serial.ensures.ok,
+      ← c.in_ok-serial.ensures.next,
+      c.in_ok-expect_end.ensures.ok,
+    ) refl
 
 pub returns-clause-identifier : goal.returns-clause-identifier
 unfolding issuer_serial_at

@@ -6,12 +6,18 @@ use Rattle.std.specs.Prelude.{bytes_eq, is_some}
 
 pub returns-then-eq : goal.returns-then-eq
 returns-then-eq c =
-    λ earlier known. c.is_some.ensures ∙ some_copied c.args.self.now.content_type ∙ ap is_some known.content_type ∙ has_known CONTENT_TYPE earlier c.args.identifier.now refl (ap (λ (x : List ℕ). bytes_eq c.args.identifier.now x) (sym c.as_slice.ensures) ∙ sym c.if-eq.ensures)
+    let is_type = ap (λ (x : List ℕ). bytes_eq c.args.identifier.now x) (sym c.as_slice.ensures) ∙ sym c.if-eq.ensures in
+    λ earlier known. c.is_some.ensures ∙ some_copied c.args.self.now.content_type ∙ ap is_some known.content_type
+    ∙ has_known CONTENT_TYPE earlier c.args.identifier.now refl is_type
 
 pub returns-then-eq-2 : goal.returns-then-eq-2
 returns-then-eq-2 c =
-    λ earlier known. c.is_some-then-eq-2.ensures ∙ some_copied c.args.self.now.digest ∙ ap is_some known.digest ∙ has_known MESSAGE_DIGEST earlier c.args.identifier.now refl (ap (λ (x : List ℕ). bytes_eq c.args.identifier.now x) (sym c.as_slice-2.ensures) ∙ sym c.if-eq-2.ensures)
+    let is_digest = ap (λ (x : List ℕ). bytes_eq c.args.identifier.now x) (sym c.as_slice-2.ensures) ∙ sym c.if-eq-2.ensures in
+    λ earlier known. c.is_some-then-eq-2.ensures ∙ some_copied c.args.self.now.digest ∙ ap is_some known.digest
+    ∙ has_known MESSAGE_DIGEST earlier c.args.identifier.now refl is_digest
 
 pub returns : goal.returns
 returns c =
-    λ earlier known. has_other earlier c.args.identifier.now (ap (λ (x : List ℕ). bytes_eq c.args.identifier.now x) (sym c.as_slice.ensures) ∙ sym c.if-eq.ensures) (ap (λ (x : List ℕ). bytes_eq c.args.identifier.now x) (sym c.as_slice-2.ensures) ∙ sym c.if-eq-2.ensures)
+    let is_type = ap (λ (x : List ℕ). bytes_eq c.args.identifier.now x) (sym c.as_slice.ensures) ∙ sym c.if-eq.ensures in
+    let is_digest = ap (λ (x : List ℕ). bytes_eq c.args.identifier.now x) (sym c.as_slice-2.ensures) ∙ sym c.if-eq-2.ensures in
+    λ earlier known. has_other earlier c.args.identifier.now is_type is_digest
