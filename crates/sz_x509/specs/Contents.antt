@@ -1,5 +1,5 @@
 -- Whether a content is one of its type, as tests of its octets, and the values that it then has.
-use Rattle.std.specs.Prelude.{ℕ, ℤ, ◌+◌, ◌-◌, ◌*◌, ◌%◌, ◌^◌, ◌&&◌, ◌||◌, ◌==◌, not, nat_lt, nat_le, pos, unsigned_abs, if◌then◌else◌, Bool, false, List, [], ◌∷◌, length, slice_index, take, drop, bytes_eq, suc}
+use Rattle.std.specs.Prelude.{ℕ, ℤ, ◌+◌, ◌-◌, ◌*◌, ◌%◌, ◌^◌, ◌&&◌, ◌||◌, ◌==◌, not, nat_lt, nat_le, pos, unsigned_abs, if◌then◌else◌, Bool, false, List, [], ◌∷◌, length, slice_index, bytes_eq}
 use Rattle.sz_calendar.specs.CivilTime.{CivilTime, unix_seconds}
 use Rattle.sz_calendar.specs.Gregorian.{month_lengths}
 use Rattle.sz_der.specs.Der.{number_of}

@@ -20,4 +20,6 @@ pub use laws::fault_or_certificate;
 pub use writing::{CertSpec, is_writable, write_cert, write_tbs};
 
 #[cfg(test)]
+mod tests;
+#[cfg(test)]
 mod tests_writing;

@@ -1,10 +1,10 @@
-use Rattle.std.proofs.Common.{◌≡◌, true, false, not, ◌||◌, List, Option, Some, None, refl, sym, ap, ◌∙◌}
-use Rattle.std.proofs.lemmas.Bool.{not_from_false, not_from_true, or_left, or_right}
+use Rattle.std.proofs.Common.{◌≡◌, true, false, not, ◌||◌, Some, None, refl, sym, ap, ◌∙◌}
+use Rattle.std.proofs.lemmas.Bool.{not_from_false, or_left, or_right}
 use Rattle.std.proofs.lemmas.Result.{MatchResult-weaker}
-use Rattle.sz_der.specs.declared.tag.TheConstants.{BOOLEAN, SEQUENCE}
+use Rattle.sz_der.specs.declared.tag.TheConstants.{SEQUENCE}
 use Rattle.sz_x509.specs.CertFault.{extension_fault, Fault, flag_at, flag_spot, identifier_at, stands_among, value_fault, value_spot}
 use Rattle.sz_x509.specs.Extensions.{is_known}
-use Rattle.sz_x509.specs.Parts.{after, after_optional, content_at, inside, spot_of}
+use Rattle.sz_x509.specs.Parts.{content_at, spot_of}
 use Rattle.sz_x509.specs.declared.fault.CertKind.TheVariants as kinds
 use Rattle.sz_x509.proofs.Steps.{exit}
 use Rattle.sz_x509.proofs.Walking.{shorter_after}

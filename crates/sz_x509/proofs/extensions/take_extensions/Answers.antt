@@ -1,8 +1,6 @@
-use Rattle.std.proofs.Common.{refl, sym, ap, ◌∙◌}
+use Rattle.std.proofs.Common.{refl, sym, ◌∙◌}
 use Rattle.sz_x509.specs.CertFault.{extensions_fault}
-use Rattle.sz_x509.specs.CertPlaces.{RestrictedAt}
-use Rattle.sz_x509.specs.Parts.{inside, Spot, spot_of, spots_from}
-use Rattle.sz_x509.specs.View.{extensions_of}
+use Rattle.sz_x509.specs.Parts.{spot_of}
 use Rattle.sz_x509.specs.declared.tag.TheConstants.{EXTENSIONS}
 use Rattle.sz_x509.proofs.Adding.{restricted_by_none}
 use Rattle.sz_x509.proofs.Chains.{after_next, after_other}
