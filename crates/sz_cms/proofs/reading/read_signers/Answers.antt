@@ -33,7 +33,7 @@ loop-each-preserved c =
       inv.0 ++ now ∷ [],
       rw c.in_ok-item.ensures.next (walks_step signer_fault start inv.0 now inv.1 more none),
       pushed signer_of signer_at _ _ c.in_ok-signer.signer inv.0 now c.push.ensures.items inv.2
-      (c.in_ok-signer.ensures.signer ∙ ap signer_from (c.parts_of.ensures now c.in_ok-item.ensures.item)),
+          (c.in_ok-signer.ensures.signer ∙ ap signer_from (c.parts_of.ensures now c.in_ok-item.ensures.item)),
     )
 
 pub returns-in_err-item-clause-fault : goal.returns-in_err-item-clause-fault

@@ -20,10 +20,13 @@ returns-then-eq-clause-ok c =
 
 pub returns-then-eq-clause-known : goal.returns-then-eq-clause-known
 returns-then-eq-clause-known c =
-    let is = ap (λ (x : List ℕ). bytes_eq c.args.identifier.now x) (sym c.as_slice.ensures) ∙ sym c.if-eq.ensures in record { content_type = rw (
-      is,
-      c.in_ok-value.ensures.content,
-    ) refl; digest = rw (not_digest c.args.identifier.now is) refl }
+    let is = ap (λ (x : List ℕ). bytes_eq c.args.identifier.now x) (sym c.as_slice.ensures) ∙ sym c.if-eq.ensures in record {
+      content_type = rw (
+        is,
+        c.in_ok-value.ensures.content,
+      ) refl;
+      digest = rw (not_digest c.args.identifier.now is) refl;
+    }
 
 pub returns-in_err-value-2-clause-fault : goal.returns-in_err-value-2-clause-fault
 unfolding values_fault
@@ -45,10 +48,13 @@ returns-then-eq-2-clause-ok c =
 
 pub returns-then-eq-2-clause-known : goal.returns-then-eq-2-clause-known
 returns-then-eq-2-clause-known c =
-    record { content_type = rw (ap (λ (x : List ℕ). bytes_eq c.args.identifier.now x) (sym c.as_slice.ensures) ∙ sym c.if-eq.ensures) refl; digest = rw (
-      ap (λ (x : List ℕ). bytes_eq c.args.identifier.now x) (sym c.as_slice-2.ensures) ∙ sym c.if-eq-2.ensures,
-      c.in_ok-value-2.ensures.content,
-    ) refl }
+    record {
+      content_type = rw (ap (λ (x : List ℕ). bytes_eq c.args.identifier.now x) (sym c.as_slice.ensures) ∙ sym c.if-eq.ensures) refl;
+      digest = rw (
+        ap (λ (x : List ℕ). bytes_eq c.args.identifier.now x) (sym c.as_slice-2.ensures) ∙ sym c.if-eq-2.ensures,
+        c.in_ok-value-2.ensures.content,
+      ) refl;
+    }
 
 pub returns-clause-ok : goal.returns-clause-ok
 unfolding values_fault
