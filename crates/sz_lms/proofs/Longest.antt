@@ -105,8 +105,7 @@ same_where : {T : Type 0} (o : Option T) (f g : T → List (Bool × Rule)) → (
 same_where None f g same = refl
 same_where (Some type) f g same = same type refl
 
-levels_of_front : (n : ℕ) (key : List ℕ) (c : ℕ) (bytes : List ℕ) → most_of n < c → c ≤ length bytes
-    → level_rules n key (take c bytes) ≡ level_rules n key bytes
+levels_of_front : (n : ℕ) (key : List ℕ) (c : ℕ) (bytes : List ℕ) → most_of n < c → c ≤ length bytes → level_rules n key (take c bytes) ≡ level_rules n key bytes
 unfolding level_rules
 levels_of_front zero key c bytes room whole =
     same_where (tree_type key) _ _ (λ type known.
