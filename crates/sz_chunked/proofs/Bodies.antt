@@ -1,12 +1,12 @@
 -- A chunked body after one more byte and after bytes of a chunk.
-use Rattle.std.proofs.Common.{◌≡◌, ◌≢◌, ℕ, zero, suc, true, false, ◌+◌, ◌-◌, ◌<◌, ◌≤◌, Bool, List, [], ◌∷◌, ◌++◌, length, take, refl, sym, ap, ◌∙◌, subst, arith, append_assoc, append-nil, length-append, All, Ok, Err}
+use Rattle.std.proofs.Common.{◌≡◌, ℕ, zero, suc, true, ◌-◌, ◌<◌, ◌≤◌, List, [], ◌∷◌, ◌++◌, length, take, refl, sym, ap, ◌∙◌, subst, arith, append_assoc, append-nil, length-append, All, Ok, Err}
 use Rattle.std.proofs.lemmas.List.{flat_map_more}
 use Rattle.std.proofs.lemmas.List.Elements.{All-nil, All-push, All-weaker}
 use Rattle.std.specs.List.{flat_map}
 use Rattle.std.specs.Char.{is_ascii_hexdigit}
 use Rattle.sz_head.specs.declared.kind.Kind.TheVariants.{Trailer}
 use Rattle.sz_head.specs.declared.reading.HeadReading.{HeadReading}
-use Rattle.sz_head.specs.Head.{IsHead, HasNoHead, NeverHasHead}
+use Rattle.sz_head.specs.Head.{IsHead, HasNoHead}
 use Rattle.sz_head.specs.declared.progress.Progress.{Progress}
 use Rattle.sz_head.specs.declared.progress.Progress.TheVariants.{More, Whole as WholeHead}
 use Rattle.sz_head.specs.Reading.{Answers as AnswersHead, Takes as TakesHead, IsMore, IsWhole, IsRefused}
@@ -17,8 +17,8 @@ use Rattle.sz_chunked.specs.declared.place.Place.{Place}
 use Rattle.sz_chunked.specs.declared.place.Place.TheVariants.{InSize, InExtension, LineFeed, InData, DataEnd, DataLineFeed, Between, InTrailer, Whole}
 use Rattle.sz_chunked.specs.declared.fault.ChunkFault.{ChunkFault}
 use Rattle.sz_chunked.specs.declared.fault.ChunkFault.TheVariants.{BadChunk, TooLarge}
-use Rattle.sz_chunked.specs.Chunked.{SizeLine, line_text, Chunk, print_chunk, IsChunk, content_of, ReadsChunked, BeginsChunked, NeverChunked}
-use Rattle.sz_chunked.specs.Part.{At, NoneFrom, IsShortChunk, IsLineOf, Refuses, is_at_line}
+use Rattle.sz_chunked.specs.Chunked.{line_text, Chunk, print_chunk, IsChunk, content_of, ReadsChunked, BeginsChunked, NeverChunked}
+use Rattle.sz_chunked.specs.Part.{At, NoneFrom, IsShortChunk, Refuses, is_at_line}
 use Rattle.sz_chunked.specs.Reading.{Stands, Came, RefusesNext}
 use Rattle.sz_chunked.proofs.ChunkLines.{behind_chunks, bad_trailer}
 
@@ -120,10 +120,10 @@ trailer_whole old new byte used bytes content came whole =
       is_trailer = one_taken came.1 byte used whole.within came.5 whole.head;
       text_is =
           ap (λ (t : List ℕ). t ++ byte ∷ []) came.2 ∙ append_assoc came.0 came.1 (byte ∷ [])
-              ∙ ap (λ (t : List ℕ). t ++ text) stands.bytes_are ∙ append_assoc (flat_map print_chunk stands.chunks) stands.tail text
-              ∙ ap (λ (t : List ℕ). flat_map print_chunk stands.chunks ++ t)
-                  (ap (λ (t : List ℕ). t ++ text) stands.at.3 ∙ append_assoc (line_text line) (13 ∷ 10 ∷ []) text
-                  ∙ ap (λ (t : List ℕ). line_text line ++ 13 ∷ 10 ∷ t) (sym (append-nil text)));
+          ∙ ap (λ (t : List ℕ). t ++ text) stands.bytes_are ∙ append_assoc (flat_map print_chunk stands.chunks) stands.tail text
+          ∙ ap (λ (t : List ℕ). flat_map print_chunk stands.chunks ++ t)
+          (ap (λ (t : List ℕ). t ++ text) stands.at.3 ∙ append_assoc (line_text line) (13 ∷ 10 ∷ []) text
+          ∙ ap (λ (t : List ℕ). line_text line ++ 13 ∷ 10 ∷ t) (sym (append-nil text)));
       content_is = stands.content_is ∙ ap (λ (t : List ℕ). content_of stands.chunks ++ t) stands.at.2 ∙ append-nil (content_of stands.chunks);
     }
 

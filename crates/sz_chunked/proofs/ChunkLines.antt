@@ -1,18 +1,18 @@
 -- A chunked body has its first line, its sizes and its chunks in one way only, and what no chunked body begins with.
-use Rattle.std.proofs.Common.{◌≡◌, ◌≢◌, ℕ, ◌+◌, ◌<◌, ◌≤◌, ◌⊎◌, Bool, true, false, not, ◌||◌, List, [], ◌∷◌, ◌++◌, length, refl, sym, ap, ◌∙◌, subst, arith, append_assoc, append-nil, length-append, inl, inr, Option, Some, None, All}
-use Rattle.std.proofs.lemmas.Bool.{false≢true, both_ways, or_from, ne_eqb, eqb-true}
+use Rattle.std.proofs.Common.{◌≡◌, ◌≢◌, ℕ, ◌<◌, ◌≤◌, ◌⊎◌, Bool, true, false, not, List, [], ◌∷◌, ◌++◌, length, refl, sym, ap, ◌∙◌, subst, arith, append_assoc, length-append, inl, inr, Option, Some, None, All}
+use Rattle.std.proofs.lemmas.Bool.{false≢true, both_ways, or_from, ne_eqb}
 use Rattle.std.proofs.lemmas.List.{length_push}
 use Rattle.std.proofs.lemmas.List.Elements.{All-head, All-tail, All-cons, All-nil, All-append, All-push, All-weaker}
 use Rattle.std.specs.List.{flat_map}
 use Rattle.std.specs.Char.{is_ascii_hexdigit}
 use Rattle.std.specs.Str.Parse.{digits_value}
-use Rattle.httparse.specs.Grammar.{AllPass, is_extension_byte, IsExtension, print_extension, ReadsSection}
+use Rattle.httparse.specs.Grammar.{AllPass, is_extension_byte, IsExtension, print_extension}
 use Rattle.httparse.specs.Pieces.{Stops}
 use Rattle.httparse.proofs.GrammarLemmas.{ReadsSection-append}
 use Rattle.httparse.proofs.RunLemmas.{run_unique}
 use Rattle.sz_head.specs.declared.kind.Kind.TheVariants.{Trailer}
 use Rattle.sz_head.specs.Head.{IsHead, BeginsWithHead, NeverHasHead}
-use Rattle.sz_chunked.specs.Chunked.{SizeLine, line_text, line_size, IsSizeLine, Chunk, print_chunk, IsChunk, content_of, ReadsChunked, BeginsChunked, NeverChunked}
+use Rattle.sz_chunked.specs.Chunked.{SizeLine, line_text, line_size, IsSizeLine, Chunk, print_chunk, IsChunk, content_of, BeginsChunked}
 use Rattle.sz_chunked.specs.Part.{NoneFrom}
 
 more_bytes : {b c : ℕ} {xs ys : List ℕ} → b ∷ xs ≡ c ∷ ys → (b ≡ c) × (xs ≡ ys)
@@ -55,7 +55,7 @@ pub same_size : (l m : SizeLine) → IsSizeLine l → IsSizeLine m → line_text
 same_size l m vl vm e =
     let longer : l.digits ++ (print_extension l.extension ++ 13 ∷ []) ≡ m.digits ++ (print_extension m.extension ++ 13 ∷ []) =
     sym (append_assoc l.digits (print_extension l.extension) (13 ∷ [])) ∙ ap (λ (t : List ℕ). t ++ 13 ∷ []) e
-        ∙ append_assoc m.digits (print_extension m.extension) (13 ∷ []) in
+    ∙ append_assoc m.digits (print_extension m.extension) (13 ∷ []) in
     let run = run_unique is_ascii_hexdigit l.digits m.digits _ _ vl.digits vm.digits (stops_digits l.extension []) (stops_digits m.extension []) longer in
     ap (λ (t : List ℕ). digits_value 16 t) run.0
 
@@ -110,17 +110,28 @@ first_line text begins =
           valid = first.line;
           is = is ∙ append_assoc (print_chunk chunk) (flat_map print_chunk chunks) (line_text begins.2.last ++ (13 ∷ 10 ∷ (begins.2.trailer ++ begins.1)))
               ∙ print_chunk-append chunk later;
-          then = inr (chunk.bytes, later, first.some, first.size, refl, (content_of chunks, begins.1, record {
-            chunks = chunks;
-            last = begins.2.last;
-            trailer = begins.2.trailer;
-            each = All-tail IsChunk chunk chunks each;
-            last_line = begins.2.last_line;
-            zero_size = begins.2.zero_size;
-            is_trailer = begins.2.is_trailer;
-            text_is = refl;
-            content_is = refl;
-          }));
+          then = inr (
+            chunk.bytes,
+            later,
+            first.some,
+            first.size,
+            refl,
+            (
+              content_of chunks,
+              begins.1,
+              record {
+                chunks = chunks;
+                last = begins.2.last;
+                trailer = begins.2.trailer;
+                each = All-tail IsChunk chunk chunks each;
+                last_line = begins.2.last_line;
+                zero_size = begins.2.zero_size;
+                is_trailer = begins.2.is_trailer;
+                text_is = refl;
+                content_is = refl;
+              },
+            ),
+          );
         }
 
 -- what follows a chunk is a chunked body again
@@ -128,7 +139,7 @@ pub behind_chunk : (chunk : Chunk) (x : List ℕ) → IsChunk chunk → BeginsCh
 behind_chunk chunk x valid begins =
     let first = first_line (print_chunk chunk ++ x) begins in
     let same = same_text (line_text chunk.line) (line_text first.line) _ _ (plain_line chunk.line valid.line) (plain_line first.line first.valid)
-        (sym (print_chunk-append chunk x) ∙ first.is) in
+    (sym (print_chunk-append chunk x) ∙ first.is) in
     let size = same_size chunk.line first.line valid.line first.valid same.0 in
     go first.line first.after first.then size (more_bytes same.1).1
   where
@@ -154,9 +165,9 @@ pub bad_after_digits : (tail : List ℕ) (b : ℕ) → AllPass is_ascii_hexdigit
 bad_after_digits tail b hex fails bad more begins =
     let first = first_line ((tail ++ b ∷ []) ++ more) begins in
     let joined = sym (append_assoc tail (b ∷ []) more) ∙ first.is
-        ∙ append_assoc first.line.digits (print_extension first.line.extension) (13 ∷ 10 ∷ first.after) in
+    ∙ append_assoc first.line.digits (print_extension first.line.extension) (13 ∷ 10 ∷ first.after) in
     let run = run_unique is_ascii_hexdigit tail first.line.digits (b ∷ more) _ hex first.valid.digits fails
-        (stops_digits first.line.extension (10 ∷ first.after)) joined in
+    (stops_digits first.line.extension (10 ∷ first.after)) joined in
     judged bad first.line.digits first.line.extension first.after first.valid.some run.0 run.1
   where
     judged : (length tail ≡ 0) ⊎ ((b ≢ 59) × (b ≢ 13)) → (digits : List ℕ) (extension : Option (List ℕ)) (after : List ℕ) → 0 < length digits
@@ -203,7 +214,7 @@ bad_after_cr line tail b valid is other more begins =
     let first = first_line ((tail ++ b ∷ []) ++ more) begins in
     let joined : line_text line ++ 13 ∷ b ∷ more ≡ line_text first.line ++ 13 ∷ 10 ∷ first.after =
     sym (append_assoc (line_text line) (13 ∷ []) (b ∷ more)) ∙ ap (λ (t : List ℕ). t ++ b ∷ more) (sym is)
-        ∙ sym (append_assoc tail (b ∷ []) more) ∙ first.is in
+    ∙ sym (append_assoc tail (b ∷ []) more) ∙ first.is in
     let same = same_text (line_text line) (line_text first.line) (b ∷ more) (10 ∷ first.after) (plain_line line valid) (plain_line first.line first.valid) joined in
     other (more_bytes same.1).0
 
@@ -237,8 +248,8 @@ pub bad_data_line_feed : (line : SizeLine) (tail part : List ℕ) (b : ℕ) → 
 bad_data_line_feed line tail part b valid size some is other more begins =
     let joined : (tail ++ b ∷ []) ++ more ≡ line_text line ++ 13 ∷ 10 ∷ (part ++ 13 ∷ b ∷ more) =
     append_assoc tail (b ∷ []) more ∙ ap (λ (t : List ℕ). t ++ b ∷ more) is
-        ∙ append_assoc (line_text line) (13 ∷ 10 ∷ (part ++ 13 ∷ [])) (b ∷ more)
-        ∙ ap (λ (t : List ℕ). line_text line ++ 13 ∷ 10 ∷ t) (append_assoc part (13 ∷ []) (b ∷ more)) in
+    ∙ append_assoc (line_text line) (13 ∷ 10 ∷ (part ++ 13 ∷ [])) (b ∷ more)
+    ∙ ap (λ (t : List ℕ). line_text line ++ 13 ∷ 10 ∷ t) (append_assoc part (13 ∷ []) (b ∷ more)) in
     let behind = behind_data line part (13 ∷ b ∷ more) valid size some (subst (λ (t : List ℕ). BeginsChunked t) joined begins) in
     other (more_bytes (more_bytes behind.1).1).0
 

@@ -1,5 +1,5 @@
 -- Where a byte leads from each place of a chunked body.
-use Rattle.std.proofs.Common.{◌≡◌, ◌≢◌, ℕ, ◌+◌, ◌*◌, ◌<◌, ◌≤◌, true, false, List, [], ◌∷◌, ◌++◌, length, refl, sym, ap, ◌∙◌, subst, arith, append_assoc, append-nil, length-append, Some, None, All, inl, inr}
+use Rattle.std.proofs.Common.{◌≡◌, ◌≢◌, ℕ, ◌+◌, ◌*◌, ◌≤◌, true, false, List, [], ◌∷◌, ◌++◌, length, refl, sym, ap, ◌∙◌, subst, arith, append_assoc, append-nil, None, inl, inr}
 use Rattle.std.proofs.lemmas.List.{length_push}
 use Rattle.std.proofs.lemmas.List.Elements.{All-nil, All-push, All-append, All-cons}
 use Rattle.std.specs.Char.{is_ascii_hexdigit, digit_value}
@@ -7,10 +7,9 @@ use Rattle.std.specs.Str.Parse.{digits_value}
 use Rattle.httparse.specs.Grammar.{AllPass, is_extension_byte}
 use Rattle.httparse.proofs.ChunkLemmas.{digits_value_after_push}
 use Rattle.sz_chunked.specs.declared.size.Size.{Size}
-use Rattle.sz_chunked.specs.declared.place.Place.{Place}
 use Rattle.sz_chunked.specs.declared.place.Place.TheVariants.{InSize, InExtension, LineFeed, InData, DataEnd, DataLineFeed, Between, InTrailer}
-use Rattle.sz_chunked.specs.Chunked.{SizeLine, line_text, line_size, IsSizeLine, Chunk, print_chunk, IsChunk}
-use Rattle.sz_chunked.specs.Part.{At, NoneFrom, IsShortLine, IsLineOf, IsShortChunk, extended, most_line_bytes}
+use Rattle.sz_chunked.specs.Chunked.{SizeLine, line_text}
+use Rattle.sz_chunked.specs.Part.{At, NoneFrom, IsLineOf, extended, most_line_bytes}
 use Rattle.sz_chunked.proofs.ChunkLines.{bad_after_digits, bad_digit, bad_line_feed, bad_after_cr, bad_data_end, bad_data_line_feed, plain, plain_digits}
 
 -- ---- the size
@@ -105,8 +104,7 @@ extension_at size len byte tail part not_cr not_lf other here =
     let valid = here.2.short.valid in
     let longer : tail ++ byte ∷ [] ≡ here.0 ++ 59 ∷ (here.1 ++ byte ∷ []) =
     ap (λ (t : List ℕ). t ++ byte ∷ []) here.3 ∙ append_assoc here.0 (59 ∷ here.1) (byte ∷ []) in
-    let few : length tail ≤ 256 = subst (λ (t : List ℕ). length t ≤ 256) (sym here.3) here.2.short.few in
-    (
+    let few : length tail ≤ 256 = subst (λ (t : List ℕ). length t ≤ 256) (sym here.3) here.2.short.few in (
       here.0,
       here.1 ++ byte ∷ [],
       record {

@@ -1,12 +1,12 @@
 -- A chunked body after a piece.
-use Rattle.std.proofs.Common.{◌≡◌, ◌≢◌, ℕ, ◌+◌, ◌-◌, ◌<◌, ◌≤◌, ◌⊎◌, Bool, true, false, List, [], ◌∷◌, ◌++◌, length, take, drop, get_or, refl, sym, ap, ◌∙◌, subst, arith, append_assoc, append-nil, length-append, length-take, length-drop, take-append-drop, inl, inr}
+use Rattle.std.proofs.Common.{◌≡◌, ◌≢◌, ℕ, ◌+◌, ◌-◌, ◌<◌, ◌≤◌, ◌⊎◌, true, List, ◌∷◌, ◌++◌, length, take, drop, get_or, refl, sym, ap, ◌∙◌, subst, arith, append_assoc, length-append, length-take, length-drop, take-append-drop, inl, inr}
 use Rattle.std.proofs.Math.Seq.{take-add}
 use Rattle.std.proofs.lemmas.Bool.{cases_lt}
 use Rattle.std.proofs.lemmas.List.{drop_more}
 use Rattle.sz_head.specs.declared.reading.HeadReading.{HeadReading}
 use Rattle.sz_chunked.specs.declared.body.ChunkedBody.{ChunkedBody}
 use Rattle.sz_chunked.specs.declared.fault.ChunkFault.{ChunkFault}
-use Rattle.sz_chunked.specs.declared.fault.ChunkFault.TheVariants.{BadChunk, TooLarge}
+use Rattle.sz_chunked.specs.declared.fault.ChunkFault.TheVariants.{TooLarge}
 use Rattle.sz_chunked.specs.declared.place.Place.{Place}
 use Rattle.sz_chunked.specs.declared.place.Place.TheVariants.{InSize, InExtension, LineFeed, InData, DataEnd, DataLineFeed, Between, InTrailer, Whole}
 use Rattle.sz_chunked.specs.Part.{is_at_line, is_framing}
@@ -87,8 +87,10 @@ data_taken trailer left count used before content piece place stands few inside 
   where
     long : length (take count (drop used piece)) ≡ count
     long = omega (arith, length-take count (drop used piece), length-drop used piece)
+
     joined : (before ++ take used piece) ++ take count (drop used piece) ≡ before ++ take (used + count) piece
     joined = append_assoc before (take used piece) (take count (drop used piece)) ∙ ap (λ (t : List ℕ). before ++ t) (sym (take-add used count piece))
+
     judged : (count < left) ⊎ (left ≤ count) → Came trailer place (before ++ take (used + count) piece) (content ++ take count (drop used piece))
     judged (inl short) =
         let here = data_more left (before ++ take used piece) content (take count (drop used piece)) stands (omega (arith, long)) in

@@ -1,6 +1,5 @@
 -- A chunked body that is not whole, by the place at which it breaks off.
-use Rattle.std.specs.Prelude.{◌≡◌, ◌≢◌, ◌⊎◌, ℕ, ◌+◌, ◌<◌, ◌≤◌, List, [], ◌∷◌, ◌++◌, length, All, Bool, true, false, Some, ⊤, Result, Ok, Err}
-use Rattle.std.specs.List.{flat_map}
+use Rattle.std.specs.Prelude.{◌≡◌, ◌≢◌, ℕ, ◌+◌, ◌<◌, ◌≤◌, List, [], ◌∷◌, ◌++◌, length, Bool, true, false, Some, ⊤, Result, Ok, Err}
 use Rattle.std.specs.Char.{is_ascii_hexdigit}
 use Rattle.std.specs.Str.Parse.{digits_value}
 use Rattle.httparse.specs.Ascii.{crlf_bytes, carriage_return, line_feed, semicolon}
@@ -9,7 +8,7 @@ use Rattle.sz_chunked.specs.declared.fault.ChunkFault.{ChunkFault}
 use Rattle.sz_chunked.specs.declared.fault.ChunkFault.TheVariants.{BadChunk, TooLarge}
 use Rattle.sz_chunked.specs.declared.place.Place.{Place}
 use Rattle.sz_chunked.specs.declared.place.Place.TheVariants.{InSize, InExtension, LineFeed, InData, DataEnd, DataLineFeed, Between, InTrailer, Whole}
-use Rattle.sz_chunked.specs.Chunked.{SizeLine, line_text, line_size, IsSizeLine, Chunk, IsChunk, print_chunk, content_of, ReadsChunked, BeginsChunked}
+use Rattle.sz_chunked.specs.Chunked.{SizeLine, line_text, line_size, IsSizeLine, Chunk, IsChunk, print_chunk, ReadsChunked, BeginsChunked}
 
 -- how long the text of a line may be
 abbrev pub most_line_bytes : ℕ

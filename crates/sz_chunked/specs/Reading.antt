@@ -1,5 +1,5 @@
 -- A chunked body that is read as its bytes come.
-use Rattle.std.specs.Prelude.{◌≡◌, ◌≢◌, ◌⊎◌, ◌↔◌, ℕ, ◌+◌, ◌<◌, ◌≤◌, List, [], ◌∷◌, ◌++◌, length, take, drop, All, IsTrue, Result, Ok, Err}
+use Rattle.std.specs.Prelude.{◌≡◌, ◌⊎◌, ◌↔◌, ℕ, ◌+◌, ◌≤◌, List, [], ◌∷◌, ◌++◌, length, take, All, IsTrue, Result, Ok, Err}
 use Rattle.std.specs.List.{flat_map}
 use Rattle.sz_head.specs.declared.kind.Kind.TheVariants.{Trailer}
 use Rattle.sz_head.specs.declared.reading.HeadReading.{HeadReading}
@@ -10,7 +10,7 @@ use Rattle.sz_chunked.specs.declared.fed.Fed.{Fed}
 use Rattle.sz_chunked.specs.declared.fault.ChunkFault.{ChunkFault}
 use Rattle.sz_chunked.specs.declared.fault.ChunkFault.TheVariants.{BadChunk, TooLarge}
 use Rattle.sz_chunked.specs.declared.place.Place.{Place}
-use Rattle.sz_chunked.specs.declared.place.Place.TheVariants.{InSize, InExtension, LineFeed, InData, DataEnd, DataLineFeed, Between, InTrailer, Whole}
+use Rattle.sz_chunked.specs.declared.place.Place.TheVariants.{InData, Between, InTrailer, Whole}
 use Rattle.sz_chunked.specs.Chunked.{Chunk, print_chunk, content_of, ReadsChunked, NeverChunked}
 use Rattle.sz_chunked.specs.Part.{At, IsShortChunk, IsTooLongAt}
 

@@ -1,5 +1,7 @@
 //! Chunked bodies byte by byte and in two pieces, and what is refused.
 
+ghost use Rattle.std.specs.Prelude.{◌<◌};
+
 use crate::{ChunkFault, ChunkedBody};
 use std::alloc::Global;
 use std::test::Fail;
@@ -13,12 +15,14 @@ fn read(
     text: &[u8],
     size: usize,
     limit: u64,
-) -> Result<(Vec<u8>, Option<Result<(), ChunkFault>>), Fail> {
+) -> Result<(Vec<u8>, Option<Result<(), ChunkFault>>), Fail>
+    requires { 0 < size }
+{
     let mut reading = ChunkedBody::create(alloc, limit)?;
     let mut content = Vec::new(alloc);
     for piece in text.chunks(size) {
         let mut rest = piece;
-        while !rest.is_empty() {
+        for _ in 0..piece.len() {
             let fed = match reading.feed(rest) {
                 Ok(fed) => fed,
                 Err(fault) => return Ok((content, Some(Err(fault)))),
@@ -63,7 +67,11 @@ fn what_is_refused(rt: HostRuntime) -> Result<(), Fail> {
         (b"0000000000000001\r\na\r\n0\r\n\r\n", 9, WHOLE),
         (b"00000000000000001", 9, BAD),
         (b"fFFFffffffffffff\r\na", 1, None),
-        (b"fFFFffffffffffff\r\nab", 1, Some(Err(ChunkFault::TooLarge { limit: 1 }))),
+        (
+            b"fFFFffffffffffff\r\nab",
+            1,
+            Some(Err(ChunkFault::TooLarge { limit: 1 })),
+        ),
         (b"0\r\n: x", 9, BAD),
     ] {
         let (_, end) = read(rt.alloc(), text, 1, limit)?;

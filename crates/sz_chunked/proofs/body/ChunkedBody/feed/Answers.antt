@@ -1,4 +1,4 @@
-use Rattle.std.proofs.Common.{ℕ, List, [], ◌++◌, take, inl, inr, refl, sym, subst, append-nil, arith}
+use Rattle.std.proofs.Common.{ℕ, List, ◌++◌, take, inl, inr, refl, sym, subst, append-nil, arith}
 use Rattle.std.proofs.lemmas.Bool.{false≢true}
 use Rattle.sz_chunked.specs.Reading.{Takes}
 use Rattle.sz_chunked.proofs.Feeding.{framing_otherwise}
@@ -21,7 +21,7 @@ returns-in_default c = λ limit before content takes.
     let self = c.take_framing.new.self in
     let after = c.in-Ok.ensures.ok limit before content takes in
     let all = c.in-Ok.ensures.all (framing_otherwise self.trailer self.place (before ++ take c.in-Ok.used piece) content after.came
-        c.in_default.not-InData c.in_default.not-Whole) in
+    c.in_default.not-InData c.in_default.not-Whole) in
     record {
       within = c.in-Ok.ensures.within;
       taken = subst (λ (t : List ℕ). Takes self limit (before ++ take c.in-Ok.used piece) t) (sym (append-nil content)) after;

@@ -1,4 +1,4 @@
-use Rattle.std.proofs.Common.{◌≡◌, ℕ, ◌+◌, ◌-◌, ◌≤◌, List, ◌++◌, length, take, drop, inl, sym, ap, ◌∙◌, subst, length-append, length-drop, length-take, arith}
+use Rattle.std.proofs.Common.{◌≡◌, ℕ, ◌+◌, ◌-◌, ◌≤◌, List, ◌++◌, length, take, drop, inl, sym, subst, length-append, length-drop, length-take, arith}
 use Rattle.std.proofs.lemmas.Bool.{false≢true}
 use Rattle.std.proofs.lemmas.List.{take_rest}
 use Rattle.sz_chunked.specs.declared.place.Place.{Place}
@@ -29,7 +29,7 @@ returns c = λ limit before content takes.
     let few : count ≤ c.args.left = omega arith in
     let body = take_rest piece used in
     let came = data_taken self.trailer c.args.left count used before content piece c.after_data-self.result stands few inside
-        c.after_data-self.ensures.more c.after_data-self.ensures.whole in
+    c.after_data-self.ensures.more c.after_data-self.ensures.whole in
     let long = data_length count used piece inside in
     let full : length (take count (take (length piece - used) (drop used piece))) ≡ count =
     subst (λ (t : List ℕ). length (take count t) ≡ count) (sym body) long in

@@ -1,4 +1,4 @@
-use Rattle.std.proofs.Common.{◌≡◌, ℕ, List, [], ◌∷◌, ◌++◌, ◌+◌, length, ap, subst, ◌∙◌}
+use Rattle.std.proofs.Common.{ℕ, [], ◌∷◌, ◌++◌, ◌+◌, length, ap, ◌∙◌}
 use Rattle.sz_chunked.proofs.Bodies.{stands_after, stands_of, line_refused}
 use Rattle.sz_chunked.proofs.body.ChunkedBody.take_line_byte.Goals as goal
 

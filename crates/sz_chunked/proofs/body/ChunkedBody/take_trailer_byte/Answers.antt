@@ -1,4 +1,4 @@
-use Rattle.std.proofs.Common.{ℕ, List, [], ◌∷◌, ◌++◌, sym, subst}
+use Rattle.std.proofs.Common.{[], ◌∷◌, ◌++◌, sym, subst}
 use Rattle.sz_head.specs.declared.kind.Kind.TheVariants.{Trailer}
 use Rattle.sz_chunked.specs.declared.place.Place.{Place}
 use Rattle.sz_chunked.specs.Reading.{Came}
@@ -10,7 +10,7 @@ returns-in-Ok-More-clause-ok c = λ limit bytes content takes.
     let self = c.args.self.now in
     let came = subst (λ (p : Place). Came self.trailer p bytes content) c.requires takes.came in
     let more = answered_more c.in-Ok-More.field-0 came.1 (c.args.byte ∷ []) c.feed.new.self c.in-Ok-More.field-0-is
-        (c.in-Ok-More.ensures.answers Trailer came.1 came.4) in
+    (c.in-Ok-More.ensures.answers Trailer came.1 came.4) in
     record {
       limited = takes.limited;
       room = takes.room;
@@ -23,7 +23,7 @@ returns-in-Ok-Whole-clause-ok c = λ limit bytes content takes.
     let self = c.args.self.now in
     let came = subst (λ (p : Place). Came self.trailer p bytes content) c.requires takes.came in
     let whole = answered_whole c.in-Ok-Whole.field-0 c.in-Ok-Whole.field-0-0 came.1 (c.args.byte ∷ []) c.feed.new.self c.in-Ok-Whole.field-0-is
-        (c.in-Ok-Whole.ensures.answers Trailer came.1 came.4) in
+    (c.in-Ok-Whole.ensures.answers Trailer came.1 came.4) in
     record {
       limited = takes.limited;
       room = takes.room;
