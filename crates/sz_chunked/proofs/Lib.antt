@@ -1,0 +1,4 @@
+pub mod ChunkLines
+pub mod ChunkSteps
+pub mod Bodies
+pub mod Feeding

@@ -1,0 +1,3 @@
+pub mod Chunked
+pub mod Part
+pub mod Reading
