@@ -5,6 +5,7 @@ use Rattle.sz_der.specs.Content.{IsBoolean, HoldsBits}
 use Rattle.sz_der.specs.Der.{Der}
 use Rattle.sz_der.specs.Integer.{IsIntegerOf}
 use Rattle.sz_der.specs.declared.tag.TheConstants.{BIT_STRING, BOOLEAN, INTEGER, OBJECT_IDENTIFIER, OCTET_STRING, SEQUENCE}
+use Rattle.sz_x509.specs.Parts.{AreEach}
 use Rattle.sz_x509.specs.declared.identifier.TheConstants.{AUTHORITY_KEY_IDENTIFIER, BASIC_CONSTRAINTS, CERTIFICATE_POLICIES, EXTENDED_KEY_USAGE, KEY_USAGE, SUBJECT_ALT_NAME, SUBJECT_KEY_IDENTIFIER}
 use Rattle.sz_x509.specs.declared.tag.TheConstants.{EXTENSIONS}
 
@@ -31,9 +32,7 @@ pub record IsExtension (extension : Extension) (bytes : List ℕ) : Type 0 where
 
 -- extensions one after another
 abbrev pub AreExtensions : List Extension → List ℕ → Type 0
-AreExtensions [] bytes = bytes ≡ []
-AreExtensions (extension ∷ extensions) bytes =
-    (whole : List ℕ) × (rest : List ℕ) × IsExtension extension whole × (bytes ≡ whole ++ rest) × AreExtensions extensions rest
+AreExtensions extensions bytes = AreEach IsExtension extensions bytes
 
 -- `[3]` and a SEQUENCE of extensions, which may be empty; or no extensions, and nothing written
 abbrev pub AreInField : List Extension → List ℕ → Type 0

@@ -5,6 +5,8 @@
 #![tactic(auto)]
 
 mod cert;
+mod crl;
+mod entries;
 mod extensions;
 mod fault;
 pub mod identifier;
@@ -12,10 +14,12 @@ mod laws;
 mod parts;
 pub mod tag;
 mod tbs;
+mod tbs_list;
 
 pub use cert::Cert;
+pub use crl::Crl;
 pub use fault::{CertFault, CertKind};
-pub use laws::fault_or_certificate;
+pub use laws::{fault_or_certificate, fault_or_list};
 
 #[cfg(test)]
 mod tests;
