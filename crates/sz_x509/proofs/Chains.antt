@@ -1,23 +1,17 @@
 -- Parts that need not be there, and extensions one after another: what has no fault is spelled as its relation says,
 -- and what is spelled so has none.
-use Rattle.std.proofs.Common.{◌≡◌, ◌≢◌, ℕ, zero, suc, inl, inr, ◌⊎◌, ◌+◌, ◌<◌, ◌≤◌, ◌^◌, Bool, true, false, not, cond, ◌&&◌, ◌||◌, List, [], ◌∷◌, ◌++◌, length, drop, Option, Some, None, refl, sym, ap, subst, ◌∙◌, arith, pos, append_assoc, length-append}
-use Rattle.std.specs.Prelude.{bytes_eq, option_map}
-use Rattle.std.specs.List.{AllByRecursion, find, list_any}
-use Rattle.std.proofs.lemmas.Bool.{and_left, and_right, and_parts, and_from, both_ways, cases_Bool, eqb-true, eq-eqb, ne_eqb, false_from_ne_true, not-true, not_from_false, not_from_true, or_cases, or_left, or_right, or_parts, or_from, true≢false}
-use Rattle.std.proofs.lemmas.List.{append-nil}
-use Rattle.std.proofs.lemmas.List.Folds.{list_any-append, find-append}
+use Rattle.std.proofs.Common.{◌≡◌, ℕ, inl, inr, ◌<◌, ◌^◌, Bool, true, false, List, [], ◌∷◌, ◌++◌, Option, Some, None, refl, sym, ap, subst, ◌∙◌, arith}
+use Rattle.std.proofs.lemmas.Bool.{and_left, and_right, and_parts, and_from, cases_Bool, eqb-true, eq-eqb, ne_eqb, not_from_false}
 use Rattle.sz_der.specs.Content.{HoldsBits, IsBits}
 use Rattle.sz_der.specs.Der.{AreOctets, Der, number_of}
-use Rattle.sz_der.specs.declared.tag.TheConstants.{BIT_STRING, BOOLEAN, INTEGER, OBJECT_IDENTIFIER, OCTET_STRING, SEQUENCE}
+use Rattle.sz_der.specs.declared.tag.TheConstants.{BIT_STRING, BOOLEAN, INTEGER, OCTET_STRING, SEQUENCE}
 use Rattle.sz_x509.specs.Certificate.{IsUniqueId}
-use Rattle.sz_x509.specs.CertFault.{basic_constraints_fault, each_fault, end, extension_fault, extensions_fault, flag_at, flag_fault, flag_spot, identifier_at, key_identifier_fault, key_usage_fault, part, path_length_fault, path_length_spot, stands_among, unique_id_fault, value_fault, value_spot}
-use Rattle.sz_x509.specs.CertPlaces.{path_length_at, UsageAt}
+use Rattle.sz_x509.specs.CertFault.{basic_constraints_fault, flag_at, flag_fault, key_identifier_fault, key_usage_fault, path_length_fault, path_length_spot, unique_id_fault}
+use Rattle.sz_x509.specs.CertPlaces.{path_length_at}
 use Rattle.sz_x509.specs.Contents.{is_bits, is_boolean, is_integer, is_true_content, is_u32}
-use Rattle.sz_x509.specs.Extensions.{AreExtensions, Extension, IsBasicConstraints, IsExtension, IsFlag, IsKeyUsage, IsPathLength}
-use Rattle.sz_x509.specs.Parts.{after, after_optional, content_at, first_of, inside, is_at_end, is_next, no_item, rule, Spot, tag_at, whole_at}
-use Rattle.sz_x509.specs.declared.fault.CertKind.{CertKind}
+use Rattle.sz_x509.specs.Extensions.{IsBasicConstraints, IsFlag, IsKeyUsage, IsPathLength}
+use Rattle.sz_x509.specs.Parts.{after, after_optional, content_at, inside, is_at_end, is_next, no_item, Spot, tag_at, whole_at}
 use Rattle.sz_x509.specs.declared.fault.CertKind.TheVariants as kinds
-use Rattle.sz_x509.specs.declared.identifier.TheConstants.{BASIC_CONSTRAINTS, KEY_USAGE, SUBJECT_KEY_IDENTIFIER}
 use Rattle.sz_x509.proofs.Spots.{end_from_nothing, Found, found, found_part, holds_from_rule, inside-left, no_part-stands, nothing_left, parts_of_none, rule_from_holds, Stands, stands}
 use Rattle.sz_x509.proofs.Spelled.{alone, and_then, Der_with, last}
 use Rattle.sz_x509.proofs.Values.{bits_test, boolean_test, boolean_value, integer_test, IsBits_from_test, IsBoolean_from_test, IsIntegerOf_from_tests, number_is, u32_test}

@@ -153,7 +153,7 @@ CrlOf_from_none bytes fields fits n at =
       is_algorithm = algorithm.0;
       is_signature = rw at.signature signature.0;
       is_sequence = subst (λ (x : List ℕ). Der SEQUENCE (fields.tbs
-      ++ (whole_at (after (inside (front bytes))) ++ whole_at (after (after (inside (front bytes)))))) x) (sym whole) (rw at.tbs item);
+          ++ (whole_at (after (inside (front bytes))) ++ whole_at (after (after (inside (front bytes)))))) x) (sym whole) (rw at.tbs item);
     }
 
 pub crl_clear : (bytes : List ℕ) (fields : RevocationList) → CrlOf bytes fields → (crl_fault bytes ≡ None) × CrlAt bytes fields

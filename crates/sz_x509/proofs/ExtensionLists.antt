@@ -1,19 +1,18 @@
 -- Extensions one after another: what has no fault is spelled as its relation says, and what is spelled so has none.
-use Rattle.std.proofs.Common.{◌≡◌, ◌≢◌, ℕ, zero, suc, inl, inr, ◌⊎◌, ◌+◌, ◌<◌, ◌≤◌, Bool, true, false, not, cond, ◌&&◌, ◌||◌, List, [], ◌∷◌, ◌++◌, length, Option, Some, None, refl, sym, ap, subst, ◌∙◌, arith, length-append}
-use Rattle.std.specs.Prelude.{bytes_eq, map, option_map}
-use Rattle.std.specs.List.{AllByRecursion, find, list_any}
-use Rattle.std.proofs.lemmas.Bool.{and_parts, both_ways, cases_Bool, false_from_ne_true, not-true, not_from_false, or_cases, or_left, or_right, or_parts, or_from, true≢false}
+use Rattle.std.proofs.Common.{◌≡◌, ◌≢◌, ℕ, zero, suc, inl, inr, ◌<◌, ◌≤◌, Bool, true, false, not, ◌||◌, List, [], ◌∷◌, ◌++◌, length, None, refl, sym, ap, ◌∙◌, arith, length-append}
+use Rattle.std.specs.Prelude.{bytes_eq, map}
+use Rattle.std.specs.List.{AllByRecursion}
+use Rattle.std.proofs.lemmas.Bool.{both_ways, cases_Bool, false_from_ne_true, not-true, not_from_false, or_left, or_right, or_parts, or_from}
 use Rattle.std.proofs.lemmas.List.Folds.{list_any-append}
 use Rattle.sz_der.specs.Der.{AreOctets, Der}
 use Rattle.sz_der.specs.declared.tag.TheConstants.{BOOLEAN, OBJECT_IDENTIFIER, OCTET_STRING, SEQUENCE}
 use Rattle.sz_x509.specs.CertFault.{each_fault, end, extension_fault, flag_at, flag_fault, flag_spot, identifier_at, part, stands_among, value_fault, value_spot}
-use Rattle.sz_x509.specs.Extensions.{AreDistinct, AreExtensions, Extension, is_known, IsExtension, IsFlag, IsUnderstood, value_of}
-use Rattle.sz_x509.specs.CertPlaces.{has_identifier, value_among}
-use Rattle.sz_x509.specs.Parts.{after, after_optional, content_at, first_of, inside, is_at_end, rule, Spot, spots_upto, whole_at}
+use Rattle.sz_x509.specs.Extensions.{AreDistinct, AreExtensions, Extension, is_known, IsExtension, IsUnderstood}
+use Rattle.sz_x509.specs.Parts.{after, content_at, inside, is_at_end, Spot, spots_upto, whole_at}
 use Rattle.sz_x509.specs.declared.fault.CertKind.TheVariants as kinds
-use Rattle.sz_x509.proofs.Spots.{end_from_nothing, Found, found_part, holds_from_rule, inside-left, nil_from_end, no_part-stands, nothing_left, parts_of_none, rule_from_holds, Stands, stands}
+use Rattle.sz_x509.proofs.Spots.{end_from_nothing, Found, found_part, holds_from_rule, inside-left, nil_from_end, no_part-stands, nothing_left, parts_of_none, rule_from_holds, stands}
 use Rattle.sz_x509.proofs.Spelled.{alone, and_then, Der_with, last}
-use Rattle.sz_x509.proofs.Chains.{BeginsWithout, flag_clear, IsFlag_from_none, Optional, without_item}
+use Rattle.sz_x509.proofs.Chains.{BeginsWithout, flag_clear, IsFlag_from_none, without_item}
 use Rattle.sz_x509.proofs.Values.{bytes_same, same_bytes}
 
 -- the extension at a spot

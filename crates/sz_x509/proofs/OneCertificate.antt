@@ -1,5 +1,5 @@
 -- Bytes without a fault are those of one certificate and no other, and what the reader answers of them.
-use Rattle.std.proofs.Common.{◌≡◌, ℕ, zero, suc, inl, inr, not, ◌||◌, ◌+◌, ◌-◌, ◌*◌, ◌/◌, ◌%◌, ◌^◌, ◌<◌, ◌≤◌, List, [], ◌∷◌, ◌++◌, drop, Option, Some, None, Result, Ok, Err, refl, sym, ap, ◌∙◌, arith}
+use Rattle.std.proofs.Common.{◌≡◌, ℕ, zero, suc, inl, inr, not, ◌||◌, ◌+◌, ◌*◌, ◌/◌, ◌%◌, ◌^◌, ◌<◌, List, [], ◌∷◌, ◌++◌, drop, Option, Some, None, Result, Ok, Err, refl, sym, ap, ◌∙◌, arith}
 use Rattle.std.specs.Prelude.{bytes_eq, IfErr, IfOk, IsOkAnd, OnOk}
 use Rattle.std.specs.Int.{bit_at}
 use Rattle.std.specs.List.{AllByRecursion}
@@ -11,7 +11,7 @@ use Rattle.sz_der.specs.Der.{AreOctets}
 use Rattle.sz_der.specs.declared.tag.TheConstants.{OBJECT_IDENTIFIER, OCTET_STRING, SEQUENCE}
 use Rattle.sz_x509.specs.Certificate.{Certificate, CertOf}
 use Rattle.sz_x509.specs.CertFault.{algorithm_fault, cert_fault, each_fault, end, extension_fault, extensions_fault, extensions_spot, flag_at, flag_fault, flag_spot, identifier_at, integer_fault, issuer_id_spot, issuer_spot, key_fault, key_spot, key_usage_fault, octets_at, part, serial_spot, stands_among, subject_id_spot, subject_spot, tbs_parts_fault, unique_id_fault, validity_fault, validity_spot, value_fault, value_spot, version_fault}
-use Rattle.sz_x509.specs.CertPlaces.{ca_at, extension_spots, FieldsAt, key_at, key_id_at, path_len_at, RestrictedAt, seconds_at, TbsAt, UsageAt, value_among}
+use Rattle.sz_x509.specs.CertPlaces.{ca_at, extension_spots, FieldsAt, key_at, key_id_at, path_len_at, RestrictedAt, seconds_at, UsageAt, value_among}
 use Rattle.sz_x509.specs.Extensions.{is_known, Restrictions}
 use Rattle.sz_x509.specs.Parts.{after, after_optional, content_at, front, inside, is_next, rule, Spot, spots_from, whole_at}
 use Rattle.sz_x509.specs.View.{at, view}

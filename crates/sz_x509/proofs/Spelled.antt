@@ -1,25 +1,22 @@
 -- The parts of certificates: what has no fault is spelled as its relation says, and what is spelled so has none.
-use Rattle.std.proofs.Common.{◌≡◌, ℕ, inl, inr, ◌⊎◌, ◌<◌, ◌^◌, Bool, true, false, not, ◌&&◌, List, [], ◌∷◌, ◌++◌, length, drop, Option, Some, None, refl, sym, ap, subst, ◌∙◌, arith, ℤ, pos}
+use Rattle.std.proofs.Common.{◌≡◌, ℕ, inl, inr, true, List, [], ◌∷◌, ◌++◌, drop, None, refl, sym, ap, subst, ◌∙◌, ℤ}
 use Rattle.std.specs.Prelude.{bytes_eq}
-use Rattle.std.proofs.lemmas.Bool.{and_left, cases_Bool, eq-eqb, eqb-true, and_parts, and_from, not_from_false}
 use Rattle.std.proofs.lemmas.List.{append-nil}
 use Rattle.sz_calendar.specs.CivilTime.{CivilTime, IsReal, unix_seconds}
-use Rattle.sz_der.specs.Content.{HoldsBits, IsBits}
-use Rattle.sz_der.specs.Der.{AreOctets, Der, number_of}
+use Rattle.sz_der.specs.Der.{AreOctets, Der}
 use Rattle.sz_der.specs.Time.{NamesTime}
-use Rattle.sz_der.specs.declared.tag.TheConstants.{BIT_STRING, BOOLEAN, CONTEXT_CONSTRUCTED, INTEGER, OBJECT_IDENTIFIER, OCTET_STRING, SEQUENCE}
-use Rattle.sz_x509.specs.Certificate.{IsAlgorithm, IsKey, IsName, IsSerial, IsSignature, IsTime, IsUniqueId, IsValidity, IsVersion3}
-use Rattle.sz_x509.specs.CertFault.{algorithm_fault, basic_constraints_fault, bits_of_key, end, Fault, flag_at, flag_fault, holds_key, integer_fault, key_fault, key_identifier_fault, key_in, key_usage_fault, octets_at, octets_fault, part, path_length_fault, path_length_spot, time_fault, typed, unique_id_fault, validity_fault, version_fault}
-use Rattle.sz_x509.specs.CertPlaces.{key_at, path_length_at, seconds_at}
-use Rattle.sz_x509.specs.Contents.{is_bits, is_boolean, is_integer, is_time, is_true_content, is_u32, is_whole_octets, time_in}
-use Rattle.sz_x509.specs.Extensions.{IsBasicConstraints, IsFlag, IsKeyUsage, IsPathLength}
-use Rattle.sz_x509.specs.Parts.{after, after_optional, content_at, first_of, inside, is_at_end, is_next, no_item, rule, Spot, tag_at, whole_at}
+use Rattle.sz_der.specs.declared.tag.TheConstants.{BIT_STRING, CONTEXT_CONSTRUCTED, INTEGER, OBJECT_IDENTIFIER, SEQUENCE}
+use Rattle.sz_x509.specs.Certificate.{IsAlgorithm, IsKey, IsSerial, IsSignature, IsTime, IsValidity, IsVersion3}
+use Rattle.sz_x509.specs.CertFault.{algorithm_fault, bits_of_key, holds_key, integer_fault, key_fault, octets_at, octets_fault, time_fault, validity_fault, version_fault}
+use Rattle.sz_x509.specs.CertPlaces.{key_at, seconds_at}
+use Rattle.sz_x509.specs.Contents.{is_integer, is_time, is_whole_octets, time_in}
+use Rattle.sz_x509.specs.Parts.{after, content_at, inside, Spot, tag_at, whole_at}
 use Rattle.sz_x509.specs.declared.fault.CertKind.{CertKind}
 use Rattle.sz_x509.specs.declared.fault.CertKind.TheVariants as kinds
 use Rattle.sz_x509.specs.declared.identifier.TheConstants.{HSS_LMS}
 use Rattle.sz_x509.proofs.Spots.{end_from_nothing, Found, found, found_part, holds_from_rule, inside-left, no_part-stands, nothing_left, parts_of_none, rule_from_holds, Stands, stands}
 use Rattle.sz_x509.proofs.Times.{NamesTime_from_test, time_test, time_value}
-use Rattle.sz_x509.proofs.Values.{bits_test, boolean_test, boolean_value, bytes_same, HoldsKey_from_test, integer_test, IsBits_from_test, IsBoolean_from_test, IsInteger_from_test, IsIntegerOf_from_tests, key_test, key_value, number_is, same_bytes, u32_test, whole_octets_from_test, whole_octets_test}
+use Rattle.sz_x509.proofs.Values.{bytes_same, HoldsKey_from_test, integer_test, IsInteger_from_test, key_test, key_value, same_bytes, whole_octets_from_test, whole_octets_test}
 
 -- ---- joined strings
 

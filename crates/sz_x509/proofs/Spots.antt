@@ -1,9 +1,9 @@
 -- What stands at a spot without a fault, and that no fault is where an item stands.
-use Rattle.std.proofs.Common.{◌≡◌, ℕ, zero, suc, ◌+◌, ◌≤◌, Bool, true, false, List, [], ◌∷◌, ◌++◌, length, take, drop, Option, Some, None, refl, sym, ap, subst, ◌∙◌, arith, inl, inr}
+use Rattle.std.proofs.Common.{◌≡◌, ℕ, zero, suc, ◌≤◌, Bool, true, false, List, [], ◌∷◌, ◌++◌, length, take, drop, Option, Some, None, refl, sym, ap, subst, ◌∙◌, arith, inl, inr}
 use Rattle.std.specs.Prelude.{◌==◌, is_some, not}
 use Rattle.std.specs.List.{AllByRecursion}
 use Rattle.std.proofs.lemmas.Bool.{eqb-true, eq-eqb, ne_eqb, cases_Bool}
-use Rattle.std.proofs.lemmas.List.{append-nil, take-append-drop, drop_at, length-take-le}
+use Rattle.std.proofs.lemmas.List.{take-append-drop, drop_at, length-take-le}
 use Rattle.sz_der.specs.Der.{AreOctets, Der}
 use Rattle.sz_der.specs.Fault.{content_size, fault_of, header_size}
 use Rattle.sz_der.proofs.Front.{Clear_from_none, Der_from_Clear, Front, Front_from_Der, none_from_Clear}

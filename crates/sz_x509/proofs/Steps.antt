@@ -1,15 +1,13 @@
 -- Steps of a reader, by the spots before and after them.
-use Rattle.std.proofs.Common.{◌≡◌, ℕ, ◌+◌, ◌-◌, ◌<◌, ◌≤◌, Bool, true, false, not, List, [], ◌∷◌, ◌++◌, length, get_or, Option, Some, None, Result, Ok, Err, refl, sym, ap, subst, ◌∙◌, arith, length-append}
+use Rattle.std.proofs.Common.{◌≡◌, ℕ, ◌-◌, Bool, true, false, List, [], ◌∷◌, length, Option, Some, None, Result, Ok, Err, refl, sym, ap, ◌∙◌, arith, length-append}
 use Rattle.std.specs.Prelude.{◌==◌, bytes_eq, IfErr, IsErrAnd, slice_get}
 use Rattle.std.proofs.lemmas.Bool.{false_from_ne_true, ne_eqb, eq-eqb, eqb-true, true≢false}
-use Rattle.sz_der.specs.Der.{Der}
-use Rattle.sz_der.specs.Fault.{fault_of}
 use Rattle.sz_der.specs.Reader.{IsFrontFault, Takes}
 use Rattle.sz_der.specs.declared.fault.DerFault.{DerFault}
 use Rattle.sz_der.specs.declared.item.Item.{Item}
 use Rattle.sz_der.specs.declared.reader.DerReader.{DerReader}
 use Rattle.sz_x509.specs.CertFault.{Fault, part}
-use Rattle.sz_x509.specs.Parts.{after, content_at, front, inside, is_at_end, is_next, IsItemAt, no_item, no_part, place_at, rule, Spot, spot_of, tag_at, whole_at}
+use Rattle.sz_x509.specs.Parts.{after, content_at, front, inside, is_at_end, is_next, IsItemAt, no_item, no_part, place_at, Spot, spot_of, tag_at}
 use Rattle.sz_x509.specs.View.{at}
 use Rattle.sz_x509.specs.declared.fault.CertFault.{CertFault}
 use Rattle.sz_x509.specs.declared.fault.CertKind.{CertKind}

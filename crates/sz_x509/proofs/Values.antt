@@ -1,12 +1,12 @@
 -- Tests of contents say what the definitions of the types say.
-use Rattle.std.proofs.Common.{◌≡◌, ℕ, zero, suc, inl, inr, ◌⊎◌, ◌+◌, ◌-◌, ◌%◌, ◌^◌, ◌<◌, ◌≤◌, Bool, true, false, ◌&&◌, ◌||◌, List, [], ◌∷◌, ◌++◌, length, get_or, take, drop, refl, sym, ap, subst, ◌∙◌, arith, pos}
-use Rattle.std.specs.Prelude.{◌==◌, nat_lt, nat_le, not, bytes_eq}
-use Rattle.std.proofs.lemmas.Bool.{eqb-true, eqb-false, eq-eqb, ne_eqb, ltb-true, ltb-false, lt-ltb, le-ltb, leb-true, leb-false, le-leb, lt-leb, cases_Bool, cases_lt, cases_eq, or_cases, or_left, or_right, or_from, and_parts, and_from, and_left, and_right, not-true, not_from_false, both_ways}
+use Rattle.std.proofs.Common.{◌≡◌, ℕ, inl, inr, ◌+◌, ◌^◌, ◌<◌, ◌≤◌, Bool, true, false, ◌&&◌, List, [], ◌∷◌, ◌++◌, length, get_or, take, drop, refl, sym, ap, ◌∙◌, arith, pos}
+use Rattle.std.specs.Prelude.{◌==◌, nat_lt, nat_le, bytes_eq}
+use Rattle.std.proofs.lemmas.Bool.{eqb-true, eq-eqb, ne_eqb, ltb-true, lt-ltb, le-ltb, leb-true, le-leb, lt-leb, cases_Bool, cases_lt, cases_eq, or_cases, or_left, or_right, or_from, and_parts, and_from, and_left, and_right, not-true, not_from_false, both_ways}
 use Rattle.std.proofs.lemmas.List.{take-append-drop}
 use Rattle.std.proofs.lemmas.Slice.Eq.{bytes_eq-Decides}
 use Rattle.sz_der.specs.Content.{IsBits, IsBoolean}
 use Rattle.sz_der.specs.Der.{AreOctets, number_of}
-use Rattle.sz_der.specs.Integer.{integer_of, IsInteger, IsIntegerOf}
+use Rattle.sz_der.specs.Integer.{IsInteger, IsIntegerOf}
 use Rattle.sz_der.proofs.Values.{integer_of-negative, integer_of-positive, one_number}
 use Rattle.sz_x509.specs.Certificate.{HoldsKey, key_length}
 use Rattle.sz_x509.specs.CertFault.{holds_key, is_wrapped, key_in}

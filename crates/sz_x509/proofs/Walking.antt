@@ -1,19 +1,16 @@
 -- A walk over extensions: the spots from the first one up to here, and those that are left.
-use Rattle.std.proofs.Common.{◌≡◌, ℕ, zero, suc, inl, inr, ◌⊎◌, ◌+◌, ◌-◌, ◌<◌, ◌≤◌, Bool, true, false, not, ◌||◌, List, [], ◌∷◌, ◌++◌, length, drop, Option, Some, None, refl, sym, ap, subst, ◌∙◌, arith, append_assoc, length-drop}
-use Rattle.std.specs.Prelude.{◌==◌, bytes_eq}
-use Rattle.std.specs.List.{AllByRecursion, list_any}
+use Rattle.std.proofs.Common.{◌≡◌, ℕ, zero, suc, inl, inr, ◌<◌, ◌≤◌, true, false, List, [], ◌∷◌, ◌++◌, length, Option, Some, None, refl, sym, ap, subst, ◌∙◌, arith, length-drop}
+use Rattle.std.specs.Prelude.{bytes_eq}
+use Rattle.std.specs.List.{AllByRecursion}
 use Rattle.std.proofs.lemmas.Bool.{cases_Bool, eqb-false, ne_eqb, or_left}
-use Rattle.std.proofs.lemmas.List.{append-nil}
-use Rattle.sz_der.specs.Fault.{content_size, header_size}
 use Rattle.sz_der.proofs.Front.{Clear_from_none}
 use Rattle.sz_der.specs.declared.reader.DerReader.{DerReader}
-use Rattle.sz_der.specs.declared.tag.TheConstants.{OBJECT_IDENTIFIER, SEQUENCE}
 use Rattle.sz_x509.specs.CertFault.{each_fault, extension_fault, Fault, identifier_at, part, stands_among}
 use Rattle.sz_x509.specs.CertPlaces.{AreBetween, BeginsExtension, LeadHere}
-use Rattle.sz_x509.specs.Parts.{after, first_of, inside, is_at_end, no_item, or_later, size_at, Spot, spot_of, spots_from, spots_upto}
+use Rattle.sz_x509.specs.Parts.{after, is_at_end, or_later, size_at, Spot, spot_of, spots_from, spots_upto}
 use Rattle.sz_x509.specs.declared.fault.CertKind.{CertKind}
 use Rattle.sz_x509.specs.declared.fault.CertKind.TheVariants as kinds
-use Rattle.sz_x509.proofs.Spots.{item_of_part, nil_from_end, no_fault_there, parts_of_none}
+use Rattle.sz_x509.proofs.Spots.{item_of_part, no_fault_there, parts_of_none}
 
 -- ---- less is left after an item
 

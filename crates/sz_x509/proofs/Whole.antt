@@ -1,20 +1,20 @@
 -- A certificate as a whole: its bytes have no fault exactly where they are spelled as the relation says.
-use Rattle.std.proofs.Common.{◌≡◌, ℕ, inl, inr, ◌⊎◌, ◌<◌, ◌≤◌, Bool, true, false, List, [], ◌∷◌, ◌++◌, length, Option, Some, None, refl, sym, ap, subst, ◌∙◌, arith}
+use Rattle.std.proofs.Common.{◌≡◌, ℕ, inl, inr, true, false, List, [], ◌∷◌, ◌++◌, length, None, refl, sym, subst, ◌∙◌, arith}
 use Rattle.std.specs.List.{AllByRecursion}
 use Rattle.std.proofs.lemmas.Bool.{cases_Bool}
 use Rattle.sz_der.specs.Der.{AreOctets, Der}
-use Rattle.sz_der.specs.declared.tag.TheConstants.{BIT_STRING, CONTEXT_CONSTRUCTED, INTEGER, SEQUENCE}
+use Rattle.sz_der.specs.declared.tag.TheConstants.{SEQUENCE}
 use Rattle.sz_x509.specs.Certificate.{Certificate, CertOf, IsTbs, joined, TbsParts}
-use Rattle.sz_x509.specs.CertFault.{algorithm_fault, cert_fault, each_fault, end, extensions_fault, extensions_spot, integer_fault, issuer_id_spot, issuer_spot, key_fault, key_spot, octets_at, octets_fault, part, serial_spot, stands_among, subject_id_spot, subject_spot, tbs_parts_fault, unique_id_fault, validity_fault, validity_spot, version_fault}
+use Rattle.sz_x509.specs.CertFault.{cert_fault, extensions_fault, extensions_spot, issuer_id_spot, issuer_spot, key_spot, serial_spot, stands_among, subject_id_spot, subject_spot, tbs_parts_fault, validity_spot}
 use Rattle.sz_x509.specs.CertPlaces.{extension_spots, FieldsAt, RestrictedAt, TbsAt}
-use Rattle.sz_x509.specs.Extensions.{AreExtensions, AreInField, Extension, HasExtensions, Restrict, Restrictions}
-use Rattle.sz_x509.specs.Parts.{after, after_optional, content_at, front, inside, is_next, no_item, Spot, spots_from, spots_upto, whole_at}
+use Rattle.sz_x509.specs.Extensions.{AreExtensions, Extension, HasExtensions, Restrict, Restrictions}
+use Rattle.sz_x509.specs.Parts.{after, after_optional, content_at, front, inside, is_next, Spot, spots_from, whole_at}
 use Rattle.sz_x509.specs.declared.fault.CertKind.TheVariants as kinds
 use Rattle.sz_x509.specs.declared.tag.TheConstants.{EXTENSIONS, ISSUER_UNIQUE_ID, SUBJECT_UNIQUE_ID}
-use Rattle.sz_x509.proofs.Spots.{end_from_nothing, Found, found_part, inside-left, no_part-stands, nothing_left, parts_of_none, Stands, stands}
+use Rattle.sz_x509.proofs.Spots.{end_from_nothing, Found, found_part, inside-left, no_part-stands, nothing_left, parts_of_none, stands}
 use Rattle.sz_x509.proofs.Spelled.{algorithm_clear, alone, and_then, Der_with, IsAlgorithm_from_none, IsKey_from_none, IsSerial_from_none, IsSignature_from_none, IsValidity_from_none, IsVersion3_from_none, key_clear, last, serial_clear, signature_clear, validity_clear, version_clear}
 use Rattle.sz_x509.proofs.Chains.{absent, after_next, after_other, BeginsWithout, found_next, IsUniqueId_from_none, next_stands, Optional, present, unique_id_clear, without_item, without_nothing, without_unique_id}
-use Rattle.sz_x509.proofs.ExtensionLists.{are_distinct, are_extensions, are_understood, clear_each, extensions_at}
+use Rattle.sz_x509.proofs.ExtensionLists.{are_distinct, are_extensions, clear_each, extensions_at}
 use Rattle.sz_x509.proofs.Restricted.{each_value_is_clear, places_from_restrict, restrict_from_places}
 
 -- ---- the field of extensions

@@ -1,6 +1,6 @@
 -- The first fault of a certificate, as a function of its bytes: tables of rules over the items at their places, each
 -- item's header before its content, in the order of the bytes.
-use Rattle.std.specs.Prelude.{ℕ, ◌+◌, ◌&&◌, ◌||◌, ◌==◌, not, if◌then◌else◌, Bool, List, [], ◌∷◌, ◌++◌, length, take, drop, Option, Some, None, bytes_eq}
+use Rattle.std.specs.Prelude.{ℕ, ◌+◌, ◌&&◌, ◌||◌, ◌==◌, not, if◌then◌else◌, Bool, List, [], ◌∷◌, ◌++◌, length, take, drop, Option, None, bytes_eq}
 use Rattle.std.specs.List.{list_any}
 use Rattle.sz_der.specs.declared.tag.TheConstants.{BIT_STRING, BOOLEAN, CONTEXT_CONSTRUCTED, INTEGER, OBJECT_IDENTIFIER, OCTET_STRING, SEQUENCE}
 use Rattle.sz_x509.specs.Certificate.{key_length}
@@ -178,7 +178,8 @@ extension_fault earlier spot = first_of (
 -- the extensions at the later spots, after those at the earlier ones
 unfoldable pub each_fault : List Spot → List Spot → Option Fault
 each_fault earlier [] = None
-each_fault earlier (spot ∷ later) = first_of (extension_fault earlier spot ∷ each_fault (earlier ++ spot ∷ []) later ∷ [])
+each_fault earlier (spot ∷ later) =
+    first_of (extension_fault earlier spot ∷ each_fault (earlier ++ spot ∷ []) later ∷ [])
 
 -- `[3]` and its SEQUENCE of extensions
 unfoldable pub extensions_fault : Spot → Option Fault

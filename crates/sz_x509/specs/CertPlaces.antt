@@ -1,5 +1,5 @@
 -- The fields of a certificate that has no fault, at their places.
-use Rattle.std.specs.Prelude.{◌≡◌, ◌<◌, ◌^◌, ℕ, ℤ, Bool, true, false, if◌then◌else◌, List, [], Option, Some, None, option_map, bytes_eq, ◌∷◌, MatchBool}
+use Rattle.std.specs.Prelude.{◌≡◌, ◌<◌, ◌^◌, ℕ, ℤ, Bool, false, if◌then◌else◌, List, [], Option, Some, None, option_map, bytes_eq, ◌∷◌, MatchBool}
 use Rattle.std.specs.List.{AllByRecursion, find}
 use Rattle.sz_der.specs.Content.{HoldsBits}
 use Rattle.sz_der.specs.Der.{number_of}

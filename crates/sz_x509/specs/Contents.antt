@@ -1,5 +1,5 @@
 -- Whether a content is one of its type, as tests of its octets, and the values that it then has.
-use Rattle.std.specs.Prelude.{ℕ, ℤ, ◌+◌, ◌-◌, ◌*◌, ◌%◌, ◌^◌, ◌&&◌, ◌||◌, ◌==◌, not, nat_lt, nat_le, pos, unsigned_abs, if◌then◌else◌, Bool, false, List, [], ◌∷◌, length, slice_index, take, drop, bytes_eq, suc}
+use Rattle.std.specs.Prelude.{ℕ, ℤ, ◌+◌, ◌-◌, ◌*◌, ◌%◌, ◌^◌, ◌&&◌, ◌||◌, ◌==◌, not, nat_lt, nat_le, pos, unsigned_abs, if◌then◌else◌, Bool, false, List, [], ◌∷◌, length, slice_index, bytes_eq}
 use Rattle.sz_calendar.specs.CivilTime.{CivilTime, unix_seconds}
 use Rattle.sz_calendar.specs.Gregorian.{month_lengths}
 use Rattle.sz_der.specs.Der.{number_of}
@@ -85,7 +85,8 @@ is_utc_time text =
     bytes_eq text (utc_text (utc_time_in text)) && (nat_lt (digits_at text 0) 100 && is_real (utc_time_in text))
 
 unfoldable pub is_generalized_time : List ℕ → Bool
-is_generalized_time text = bytes_eq text (generalized_text (generalized_time_in text)) && is_real (generalized_time_in text)
+is_generalized_time text =
+    bytes_eq text (generalized_text (generalized_time_in text)) && is_real (generalized_time_in text)
 
 -- the time that an item of either type names
 abbrev pub time_in : ℕ → List ℕ → CivilTime

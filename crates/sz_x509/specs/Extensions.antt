@@ -70,7 +70,8 @@ value_of identifier extensions =
 -- the path length of basicConstraints, of 32 bits
 abbrev pub IsPathLength : Option ℕ → List ℕ → Type 0
 IsPathLength None bytes = bytes ≡ []
-IsPathLength (Some n) bytes = (n < 2 ^ 32) × ((content : List ℕ) × IsIntegerOf (pos n) content × Der INTEGER content bytes)
+IsPathLength (Some n) bytes =
+    (n < 2 ^ 32) × ((content : List ℕ) × IsIntegerOf (pos n) content × Der INTEGER content bytes)
 
 -- BasicConstraints (4.2.1.9)
 pub record IsBasicConstraints (ca : Bool) (path_len : Option ℕ) (bytes : List ℕ) : Type 0 where
@@ -111,7 +112,8 @@ HasKeyIdentifier (Some value) key_id = (octets : List ℕ) × (key_id ≡ Some o
 pub record Restrict (extensions : List Extension) (restrictions : Restrictions) : Type 0 where
   pub distinct : AreDistinct extensions
   pub understood : AllByRecursion IsUnderstood extensions
-  pub basic_constraints : HasBasicConstraints (value_of BASIC_CONSTRAINTS extensions) restrictions.ca restrictions.path_len
+  pub basic_constraints :
+      HasBasicConstraints (value_of BASIC_CONSTRAINTS extensions) restrictions.ca restrictions.path_len
   pub key_usage : HasKeyUsage (value_of KEY_USAGE extensions) restrictions.usage
   pub key_identifier : HasKeyIdentifier (value_of SUBJECT_KEY_IDENTIFIER extensions) restrictions.key_id
 

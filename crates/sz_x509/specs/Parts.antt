@@ -1,5 +1,5 @@
 -- Parts of a format at their places, and rules that they break: words for a table of faults.
-use Rattle.std.specs.Prelude.{◌≡◌, ℕ, ◌+◌, ◌-◌, ◌&&◌, ◌==◌, not, nat_lt, if◌then◌else◌, Bool, List, [], ◌∷◌, ◌++◌, length, take, drop, slice_index, Option, Some, None, is_some, zero, suc}
+use Rattle.std.specs.Prelude.{◌≡◌, ℕ, ◌+◌, ◌-◌, ◌&&◌, ◌==◌, not, if◌then◌else◌, Bool, List, [], ◌∷◌, ◌++◌, length, take, drop, slice_index, Option, Some, None, is_some, zero, suc}
 use Rattle.sz_der.specs.Fault.{fault_of, header_size, content_size}
 use Rattle.sz_der.specs.Reader.{place_of}
 use Rattle.sz_der.specs.declared.item.Item.{Item}

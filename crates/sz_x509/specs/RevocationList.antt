@@ -60,7 +60,8 @@ AreEntries serials bytes = AreEach IsEntry serials bytes
 -- revokedCertificates (5.1.2.6), which need not be there and may be empty
 abbrev pub IsRevoked : List ℕ → List ℕ → Type 0
 IsRevoked entries bytes =
-    ((bytes ≡ []) × (entries ≡ [])) ⊎ ((serials : List (List ℕ)) × AreEntries serials entries × Der SEQUENCE entries bytes)
+    ((bytes ≡ []) × (entries ≡ []))
+    ⊎ ((serials : List (List ℕ)) × AreEntries serials entries × Der SEQUENCE entries bytes)
 
 -- crlExtensions (5.1.2.7), `[0]` and a SEQUENCE of extensions, which need not be there
 abbrev pub HasListExtensions : List ℕ → Type 0

@@ -7,7 +7,7 @@ ghost use Rattle.sz_x509.specs.RevocationList.{AreEntries, CrlOf, is_listed, Rev
 ghost use Rattle.sz_x509.specs.CrlView.{list_view};
 ghost use Rattle.sz_x509.specs.View.{at};
 
-use crate::entries::{take_serial};
+use crate::entries::take_serial;
 use crate::parts::{expect_end, open_part, parts_of, take_algorithm, take_octets, take_part};
 use crate::tbs_list::read_list;
 use crate::{CertFault, CertKind};

@@ -7,7 +7,8 @@ ghost use Rattle.sz_x509.specs.Parts.{after, after_optional, content_at, each, i
 ghost use Rattle.sz_x509.specs.View.{at};
 
 use crate::parts::{
-    expect_end, fault_of, is_next, open_part, parts_of, take_flag, take_integer, take_item, take_part, take_time,
+    expect_end, fault_of, is_next, open_part, parts_of, take_flag, take_integer, take_item,
+    take_part, take_time,
 };
 use crate::{CertFault, CertKind};
 use sz_der::DerReader;

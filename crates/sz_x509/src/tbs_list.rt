@@ -9,7 +9,8 @@ ghost use Rattle.sz_x509.specs.View.{at};
 
 use crate::entries::{pass_over_extensions, take_entries};
 use crate::parts::{
-    expect_end, fault_of, is_next, open_part, parts_of, take_algorithm, take_item, take_part, take_time,
+    expect_end, fault_of, is_next, open_part, parts_of, take_algorithm, take_item, take_part,
+    take_time,
 };
 use crate::{CertFault, CertKind};
 use sz_base::Seconds;

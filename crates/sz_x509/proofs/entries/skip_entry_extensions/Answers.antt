@@ -26,7 +26,12 @@ unfolding entry_extensions_fault
 returns-clause-ok c =
     let inner = c.parts_of.ensures (spot_of c.args.reader.now) c.in_ok-item.ensures.item in
     MatchResult-weaker c.pass_over_extensions.result c.pass_over_extensions.ensures.ok
-    (λ x (e : each passed_over_fault (spots_from (spot_of c.parts_of.result)) ≡ None). rw (sym c.is_next.ensures ∙ c.if-not-is_next.false, c.in_ok-item.ensures.ok, ← inner, e) refl) (λ x h. h)
+    (λ x (e : each passed_over_fault (spots_from (spot_of c.parts_of.result)) ≡ None). rw (
+      sym c.is_next.ensures ∙ c.if-not-is_next.false,
+      c.in_ok-item.ensures.ok,
+      ← inner,
+      e,
+    ) refl) (λ x h. h)
 
 pub returns-clause-next : goal.returns-clause-next
 returns-clause-next c =

@@ -29,7 +29,12 @@ pub returns-in_err-read_entries-clause-fault : goal.returns-in_err-read_entries-
 unfolding revoked_fault
 returns-in_err-read_entries-clause-fault c =
     let inner = c.parts_of.ensures (spot_of c.args.reader.now) c.in_ok-item.ensures.item in
-    exit _ _ c.in_err-read_entries.field-0.0 c.from_residual-in_err-read_entries.ensures.1 (rw (sym c.is_next.ensures ∙ c.if-not-is_next.false, c.in_ok-item.ensures.ok, ← inner, c.in_err-read_entries.ensures.fault) refl)
+    exit _ _ c.in_err-read_entries.field-0.0 c.from_residual-in_err-read_entries.ensures.1 (rw (
+      sym c.is_next.ensures ∙ c.if-not-is_next.false,
+      c.in_ok-item.ensures.ok,
+      ← inner,
+      c.in_err-read_entries.ensures.fault,
+    ) refl)
 
 pub returns-clause-ok : goal.returns-clause-ok
 unfolding revoked_fault

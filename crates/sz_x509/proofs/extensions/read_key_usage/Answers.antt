@@ -1,4 +1,4 @@
-use Rattle.std.proofs.Common.{◌≡◌, true, Some, refl, sym, ap}
+use Rattle.std.proofs.Common.{Some, refl, sym, ap}
 use Rattle.sz_der.specs.declared.tag.TheConstants.{BIT_STRING}
 use Rattle.sz_x509.specs.CertFault.{Fault, key_usage_fault}
 use Rattle.sz_x509.specs.Contents.{is_bits}

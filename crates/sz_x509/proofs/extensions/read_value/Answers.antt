@@ -1,5 +1,4 @@
-use Rattle.std.proofs.Common.{◌≡◌, true, false, Some, refl, sym, ap, ◌∙◌}
-use Rattle.std.specs.Prelude.{bytes_eq}
+use Rattle.std.proofs.Common.{Some, refl, sym, ap, ◌∙◌}
 use Rattle.sz_x509.specs.CertFault.{value_fault}
 use Rattle.sz_x509.specs.Parts.{spot_of}
 use Rattle.sz_x509.specs.View.{extensions_of}

@@ -1,4 +1,4 @@
-use Rattle.std.proofs.Common.{ℕ, List, ap, refl, sym, subst, ◌∙◌, ◌≡◌, true, false}
+use Rattle.std.proofs.Common.{ℕ, List, ap, sym, subst, ◌∙◌, ◌≡◌, true, false}
 use Rattle.std.specs.Prelude.{bytes_eq}
 use Rattle.sz_x509.specs.CertFault.{identifier_at, stands_among}
 use Rattle.sz_x509.specs.CertPlaces.{LeadHere}

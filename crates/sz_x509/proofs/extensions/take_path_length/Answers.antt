@@ -5,7 +5,7 @@ use Rattle.sz_der.specs.Integer.{IsIntegerOf}
 use Rattle.sz_der.specs.declared.tag.TheConstants.{INTEGER}
 use Rattle.sz_x509.specs.CertFault.{Fault, path_length_fault}
 use Rattle.sz_x509.specs.Contents.{is_integer, is_u32}
-use Rattle.sz_x509.specs.Parts.{content_at, is_next, spot_of}
+use Rattle.sz_x509.specs.Parts.{is_next, spot_of}
 use Rattle.sz_x509.proofs.Chains.{after_next, after_other, next_tag, path_length-next, path_length-other}
 use Rattle.sz_x509.proofs.Steps.{exit, fails, passes}
 use Rattle.sz_x509.proofs.Values.{integer_test, IsInteger_from_test, IsIntegerOf_from_tests, number_is, u32_test}

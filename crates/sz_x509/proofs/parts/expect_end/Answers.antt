@@ -1,9 +1,8 @@
-use Rattle.std.proofs.Common.{[], length, refl, sym, ap, ◌∙◌, Some}
-use Rattle.std.proofs.lemmas.Bool.{ne_eqb}
+use Rattle.std.proofs.Common.{refl, sym, ap, Some}
 use Rattle.sz_x509.specs.CertFault.{Fault}
-use Rattle.sz_x509.specs.Parts.{is_at_end, no_end, spot_of}
+use Rattle.sz_x509.specs.Parts.{no_end, spot_of}
 use Rattle.sz_x509.proofs.Spots.{end_from_nothing}
-use Rattle.sz_x509.proofs.Steps.{at_end_is, exit, not_at_end}
+use Rattle.sz_x509.proofs.Steps.{exit, not_at_end}
 use Rattle.sz_x509.proofs.parts.expect_end.Goals as goal
 
 pub returns-then-is_at_end-clause-ok : goal.returns-then-is_at_end-clause-ok

@@ -1,8 +1,8 @@
-use Rattle.std.proofs.Common.{◌≡◌, true, false, Some, refl, sym, ap, ◌∙◌}
+use Rattle.std.proofs.Common.{◌≡◌, true, Some, refl, sym, ap, ◌∙◌}
 use Rattle.sz_der.specs.declared.tag.TheConstants.{BOOLEAN}
 use Rattle.sz_x509.specs.CertFault.{Fault, flag_fault}
 use Rattle.sz_x509.specs.Contents.{is_boolean, is_true_content}
-use Rattle.sz_x509.specs.Parts.{content_at, is_next, spot_of}
+use Rattle.sz_x509.specs.Parts.{is_next, spot_of}
 use Rattle.sz_x509.proofs.Chains.{after_next, after_other, flag_at-next, flag_at-other, next_tag}
 use Rattle.sz_x509.proofs.Steps.{exit, fails, passes}
 use Rattle.sz_x509.proofs.Values.{boolean_test, boolean_value, IsBoolean_from_test}

@@ -1,5 +1,3 @@
-use Rattle.std.proofs.Common.{refl}
-use Rattle.sz_x509.proofs.Spots.{Stands}
 use Rattle.sz_x509.proofs.Steps.{fault_there, here, item_there, next_spot}
 use Rattle.sz_x509.proofs.parts.take_item.Goals as goal
 

@@ -27,20 +27,41 @@ pub returns-in_err-extensions-clause-fault : goal.returns-in_err-extensions-clau
 unfolding list_extensions_fault
 returns-in_err-extensions-clause-fault c =
     let inner = c.parts_of-field.ensures (spot_of c.args.reader.now) c.in_ok-item.ensures.item in
-    exit _ _ c.in_err-extensions.field-0.0 c.from_residual-in_err-extensions.ensures.1 (rw (sym c.is_next.ensures ∙ c.if-not-is_next.false, c.in_ok-item.ensures.ok, ← inner, c.in_err-extensions.ensures.fault) refl)
+    exit _ _ c.in_err-extensions.field-0.0 c.from_residual-in_err-extensions.ensures.1 (rw (
+      sym c.is_next.ensures ∙ c.if-not-is_next.false,
+      c.in_ok-item.ensures.ok,
+      ← inner,
+      c.in_err-extensions.ensures.fault,
+    ) refl)
 
 pub returns-in_err-pass_over_extensions-clause-fault : goal.returns-in_err-pass_over_extensions-clause-fault
 unfolding list_extensions_fault
 returns-in_err-pass_over_extensions-clause-fault c =
     let inner = c.parts_of-field.ensures (spot_of c.args.reader.now) c.in_ok-item.ensures.item in
-    exit _ _ c.in_err-pass_over_extensions.field-0.0 c.from_residual-in_err-pass_over_extensions.ensures.1 (rw (sym c.is_next.ensures ∙ c.if-not-is_next.false, c.in_ok-item.ensures.ok, ← inner, c.in_ok-extensions.ensures.ok, ← c.in_ok-extensions.ensures.inside, c.in_err-pass_over_extensions.ensures.fault) refl)
+    exit _ _ c.in_err-pass_over_extensions.field-0.0 c.from_residual-in_err-pass_over_extensions.ensures.1 (rw (
+      sym c.is_next.ensures ∙ c.if-not-is_next.false,
+      c.in_ok-item.ensures.ok,
+      ← inner,
+      c.in_ok-extensions.ensures.ok,
+      ← c.in_ok-extensions.ensures.inside,
+      c.in_err-pass_over_extensions.ensures.fault,
+    ) refl)
 
 pub returns-clause-ok : goal.returns-clause-ok
 unfolding list_extensions_fault
 returns-clause-ok c =
     let inner = c.parts_of-field.ensures (spot_of c.args.reader.now) c.in_ok-item.ensures.item in
     MatchResult-weaker c.expect_end.result c.expect_end.ensures.ok
-    (λ x (e : end kinds.Der (spot_of c.open_part.new.reader) ≡ None). rw (sym c.is_next.ensures ∙ c.if-not-is_next.false, c.in_ok-item.ensures.ok, ← inner, c.in_ok-extensions.ensures.ok, ← c.in_ok-extensions.ensures.inside, c.in_ok-pass_over_extensions.ensures.ok, ← c.in_ok-extensions.ensures.next, e) refl) (λ x h. h)
+    (λ x (e : end kinds.Der (spot_of c.open_part.new.reader) ≡ None). rw (
+      sym c.is_next.ensures ∙ c.if-not-is_next.false,
+      c.in_ok-item.ensures.ok,
+      ← inner,
+      c.in_ok-extensions.ensures.ok,
+      ← c.in_ok-extensions.ensures.inside,
+      c.in_ok-pass_over_extensions.ensures.ok,
+      ← c.in_ok-extensions.ensures.next,
+      e,
+    ) refl) (λ x h. h)
 
 pub returns-clause-next : goal.returns-clause-next
 returns-clause-next c =
@@ -52,4 +73,13 @@ unfolding list_extensions_fault
 returns-clause-fault c =
     let inner = c.parts_of-field.ensures (spot_of c.args.reader.now) c.in_ok-item.ensures.item in
     MatchResult-weaker c.expect_end.result c.expect_end.ensures.fault (λ x h. h)
-    (λ x e. rw (sym c.is_next.ensures ∙ c.if-not-is_next.false, c.in_ok-item.ensures.ok, ← inner, c.in_ok-extensions.ensures.ok, ← c.in_ok-extensions.ensures.inside, c.in_ok-pass_over_extensions.ensures.ok, ← c.in_ok-extensions.ensures.next, e) refl)
+    (λ x e. rw (
+      sym c.is_next.ensures ∙ c.if-not-is_next.false,
+      c.in_ok-item.ensures.ok,
+      ← inner,
+      c.in_ok-extensions.ensures.ok,
+      ← c.in_ok-extensions.ensures.inside,
+      c.in_ok-pass_over_extensions.ensures.ok,
+      ← c.in_ok-extensions.ensures.next,
+      e,
+    ) refl)

@@ -21,7 +21,10 @@ returns-then-not-is_time_next-clause-next c =
 pub returns-in_err-seconds-clause-fault : goal.returns-in_err-seconds-clause-fault
 unfolding next_update_fault
 returns-in_err-seconds-clause-fault c =
-    exit _ _ c.in_err-seconds.field-0.0 c.from_residual.ensures.1 (rw (sym c.is_time_next.ensures ∙ c.if-not-is_time_next.false, c.in_err-seconds.ensures.fault) refl)
+    exit _ _ c.in_err-seconds.field-0.0 c.from_residual.ensures.1 (rw (
+      sym c.is_time_next.ensures ∙ c.if-not-is_time_next.false,
+      c.in_err-seconds.ensures.fault,
+    ) refl)
 
 pub returns-clause-ok : goal.returns-clause-ok
 unfolding next_update_fault
