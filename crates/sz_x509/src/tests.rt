@@ -1,5 +1,6 @@
 //! Certificates that other software made, one spelled by hand, what its parts may be, and each fault at its place.
 
+mod lists;
 mod vectors;
 
 use crate::{Cert, CertFault, CertKind};
