@@ -1,27 +1,26 @@
 -- The parts of revocation lists: what has no fault is spelled as its relation says, and what is spelled so has none.
-use Rattle.std.proofs.Common.{◌≡◌, ℕ, inl, inr, ◌<◌, ◌≤◌, true, false, not, ◌||◌, Bool, List, [], ◌∷◌, ◌++◌, length, Option, Some, None, refl, sym, ap, subst, ◌∙◌, arith, ℤ}
+use Rattle.std.proofs.Common.{◌≡◌, ℕ, inl, inr, true, false, not, List, [], ◌∷◌, ◌++◌, length, Option, Some, None, refl, sym, ap, subst, ◌∙◌, arith, ℤ}
 use Rattle.std.specs.Prelude.{bytes_eq, map}
 use Rattle.std.proofs.lemmas.Bool.{cases_Bool, not-true, not_from_false, or_from, or_left, or_right}
 use Rattle.sz_calendar.specs.CivilTime.{CivilTime}
-use Rattle.sz_der.specs.Der.{AreOctets, Der}
+use Rattle.sz_der.specs.Der.{AreOctets}
 use Rattle.sz_der.specs.Time.{NamesTime}
 use Rattle.sz_der.specs.declared.tag.TheConstants.{CONTEXT_CONSTRUCTED, GENERALIZED_TIME, INTEGER, OBJECT_IDENTIFIER, OCTET_STRING, SEQUENCE, UTC_TIME}
-use Rattle.sz_x509.specs.CertFault.{end, flag_at, flag_fault, flag_spot, identifier_at, integer_fault, octets_at, part, time_fault, value_spot}
+use Rattle.sz_x509.specs.CertFault.{flag_at, flag_spot, identifier_at, value_spot}
 use Rattle.sz_x509.specs.CertPlaces.{seconds_at}
-use Rattle.sz_x509.specs.Certificate.{IsTime}
 use Rattle.sz_x509.specs.Contents.{is_integer}
 use Rattle.sz_x509.specs.CrlFault.{after_next_update, all_passed_over_fault, entry_extensions_fault, entry_fault, is_time_next, list_extensions_fault, list_version_fault, next_update_fault, passed_over_fault, revoked_fault}
 use Rattle.sz_x509.specs.CrlPlaces.{BeginsEntry, entries_at, next_update_at}
 use Rattle.sz_x509.specs.Extensions.{Extension}
-use Rattle.sz_x509.specs.Parts.{after, after_optional, AreEach, content_at, each, first_of, inside, is_at_end, is_next, no_item, rule, Spot, spots_from, tag_at, whole_at}
+use Rattle.sz_x509.specs.Parts.{after, after_optional, AreEach, content_at, inside, is_at_end, is_next, Spot, spots_from, whole_at}
 use Rattle.sz_x509.specs.RevocationList.{AreEntries, ArePassedOver, HasEntryExtensions, HasListExtensions, IsEntry, IsListVersion, IsNextUpdate, IsPassedOver, IsRevoked}
 use Rattle.sz_x509.specs.declared.fault.CertKind.TheVariants as kinds
-use Rattle.sz_x509.proofs.Chains.{absent, after_next, after_other, BeginsWithout, found_next, IsFlag_from_none, next_stands, Optional, present, without_item, without_nothing}
+use Rattle.sz_x509.proofs.Chains.{absent, after_next, after_other, BeginsWithout, found_next, IsFlag_from_none, next_stands, Optional, present, without_nothing}
 use Rattle.sz_x509.proofs.Each.{are_each, each_clear, IsClear}
 use Rattle.sz_x509.proofs.ExtensionLists.{extension_at, spelled, whole_some}
 use Rattle.sz_x509.proofs.Spelled.{alone, and_then, Der_with, IsSerial_from_none, IsTime_from_none, last, serial_clear, time_clear}
 use Rattle.sz_x509.proofs.Spots.{end_from_nothing, Found, found_part, holds_from_rule, inside-left, no_part-stands, nothing_left, parts_of_none, rule_from_holds, Stands, stands}
-use Rattle.sz_x509.proofs.Values.{bytes_same, integer_test, same_bytes}
+use Rattle.sz_x509.proofs.Values.{bytes_same, same_bytes}
 
 -- ---- extensions that must not be critical
 

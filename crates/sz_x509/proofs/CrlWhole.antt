@@ -1,22 +1,21 @@
 -- A revocation list as a whole: its bytes have no fault exactly where they are spelled as the relation says, and are
 -- those of one list.
-use Rattle.std.proofs.Common.{◌≡◌, ℕ, inl, inr, ◌⊎◌, true, false, List, [], ◌∷◌, ◌++◌, Option, Some, None, Result, Ok, Err, refl, sym, ap, subst, ◌∙◌, arith, ℤ}
+use Rattle.std.proofs.Common.{◌≡◌, ℕ, inl, inr, List, [], ◌++◌, Some, None, Result, Ok, Err, refl, sym, ap, subst, ◌∙◌, arith}
 use Rattle.std.specs.Prelude.{IfErr, IfOk, IsOkAnd, OnOk}
 use Rattle.sz_der.specs.Der.{AreOctets, Der}
 use Rattle.sz_der.specs.declared.tag.TheConstants.{CONTEXT_CONSTRUCTED, GENERALIZED_TIME, INTEGER, SEQUENCE, UTC_TIME}
-use Rattle.sz_x509.specs.CertFault.{end, octets_at, part}
+use Rattle.sz_x509.specs.CertFault.{octets_at}
 use Rattle.sz_x509.specs.CertPlaces.{seconds_at}
-use Rattle.sz_x509.specs.Certificate.{IsAlgorithm}
 use Rattle.sz_x509.specs.CrlFault.{crl_fault, list_algorithm_spot, list_extensions_spot, list_issuer_spot, list_parts_fault, next_update_spot, revoked_spot, this_update_spot}
 use Rattle.sz_x509.specs.CrlPlaces.{CrlAt, entries_at, ListAt, next_update_at}
 use Rattle.sz_x509.specs.CrlView.{list_view}
 use Rattle.sz_x509.specs.Parts.{after, after_optional, content_at, front, inside, Spot, whole_at}
-use Rattle.sz_x509.specs.RevocationList.{CrlOf, HasListExtensions, IsListVersion, IsRevoked, IsTbsList, RevocationList}
+use Rattle.sz_x509.specs.RevocationList.{CrlOf, HasListExtensions, IsRevoked, IsTbsList, RevocationList}
 use Rattle.sz_x509.specs.View.{at}
 use Rattle.sz_x509.specs.declared.crl.Crl.{Crl}
 use Rattle.sz_x509.specs.declared.fault.CertFault.{CertFault}
 use Rattle.sz_x509.specs.declared.fault.CertKind.TheVariants as kinds
-use Rattle.sz_x509.proofs.Chains.{BeginsWithout, Optional, without_item, without_nothing}
+use Rattle.sz_x509.proofs.Chains.{BeginsWithout, without_item, without_nothing}
 use Rattle.sz_x509.proofs.CrlParts.{list_extensions_clear, list_extensions_read, list_version_clear, list_version_reads, next_update_clear, next_update_reads, revoked_clear, revoked_reads}
 use Rattle.sz_x509.proofs.Spelled.{algorithm_clear, alone, and_then, Der_with, IsAlgorithm_from_none, IsSignature_from_none, IsTime_from_none, last, signature_clear, time_clear}
 use Rattle.sz_x509.proofs.Spots.{end_from_nothing, Found, found_part, inside-left, no_part-stands, nothing_left, parts_of_none, stands}

@@ -1,11 +1,11 @@
 -- Items one after another under one rule: what has no fault is spelled as each is to be, and what is spelled so has none.
-use Rattle.std.proofs.Common.{◌≡◌, ℕ, zero, suc, inl, inr, ◌<◌, ◌≤◌, true, false, List, [], ◌∷◌, ◌++◌, length, Option, Some, None, refl, sym, ap, ◌∙◌, arith, length-append}
+use Rattle.std.proofs.Common.{◌≡◌, ℕ, zero, suc, inl, inr, ◌<◌, ◌≤◌, true, false, List, [], ◌∷◌, ◌++◌, length, Option, Some, None, refl, ap, arith, length-append}
 use Rattle.std.specs.Prelude.{map}
 use Rattle.std.proofs.lemmas.Bool.{cases_Bool}
 use Rattle.sz_der.specs.Der.{AreOctets}
 use Rattle.sz_der.specs.declared.tag.TheConstants.{SEQUENCE}
 use Rattle.sz_x509.specs.CertFault.{Fault}
-use Rattle.sz_x509.specs.Parts.{after, AreEach, each, first_of, is_at_end, or_later, Spot, spots_from, spots_upto, whole_at}
+use Rattle.sz_x509.specs.Parts.{after, AreEach, each, first_of, is_at_end, or_later, Spot, spots_upto, whole_at}
 use Rattle.sz_x509.proofs.ExtensionLists.{less_after, no_bytes}
 use Rattle.sz_x509.proofs.Spots.{Found, nil_from_end, parts_of_none}
 

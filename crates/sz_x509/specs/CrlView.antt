@@ -1,5 +1,5 @@
 -- What contracts see of revocation lists.
-use Rattle.std.specs.Prelude.{ℕ, ℤ, List, [], Option, option_map}
+use Rattle.std.specs.Prelude.{ℤ, [], Option, option_map}
 use Rattle.sz_base.specs.declared.moment.Seconds.{Seconds}
 use Rattle.sz_x509.specs.RevocationList.{RevocationList}
 use Rattle.sz_x509.specs.declared.crl.Crl.{Crl}
