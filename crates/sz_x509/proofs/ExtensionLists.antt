@@ -151,7 +151,7 @@ clear_where_spelled earlier spot extension rest is new understood value =
 
 -- ---- all of them
 
-whole_some : (tag : ℕ) (content whole : List ℕ) → Der tag content whole → 0 < length whole
+pub whole_some : (tag : ℕ) (content whole : List ℕ) → Der tag content whole → 0 < length whole
 whole_some tag content whole item = rw item.spelled (omega arith)
 
 -- what is left after an item is less
@@ -159,7 +159,7 @@ pub less_after : (spot : Spot) (tag : ℕ) → Found spot tag → length (after 
 less_after spot tag here =
     omega (arith, ap length here.joined, length-append (whole_at spot) (after spot).left, whole_some tag (content_at spot) (whole_at spot) here.is_item)
 
-no_bytes : (bytes : List ℕ) → length bytes ≤ 0 → bytes ≡ []
+pub no_bytes : (bytes : List ℕ) → length bytes ≤ 0 → bytes ≡ []
 no_bytes [] few = refl
 no_bytes (byte ∷ bytes) few = absurd (omega arith)
 

@@ -10,5 +10,9 @@ pub mod Walking
 pub mod Adding
 pub mod Whole
 pub mod OneCertificate
+pub mod Each
+pub mod CrlParts
+pub mod CrlWhole
+pub mod Listing
 pub mod WrittenParts
 pub mod WrittenLaw

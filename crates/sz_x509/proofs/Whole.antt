@@ -215,7 +215,7 @@ tbs_clear first fields bytes is left =
 
 -- ---- Certificate
 
-front-left : (bytes : List ℕ) → (front bytes).left ≡ bytes
+pub front-left : (bytes : List ℕ) → (front bytes).left ≡ bytes
 unfolding front
 front-left bytes = refl
 

@@ -1,5 +1,5 @@
 -- What is written is a certificate that says the values.
-use Rattle.std.proofs.Common.{◌≡◌, ◌≢◌, ℕ, zero, suc, ℤ, pos, inl, inr, ◌⊎◌, ◌<◌, ◌≤ℤ◌, ◌^◌, Bool, true, false, ◌&&◌, List, [], ◌∷◌, ◌++◌, Option, Some, refl, sym, ap, arith}
+use Rattle.std.proofs.Common.{◌≡◌, ℕ, zero, suc, ℤ, pos, inl, inr, ◌<◌, ◌≤ℤ◌, ◌^◌, Bool, true, false, ◌&&◌, List, [], ◌∷◌, ◌++◌, Option, refl, sym, arith}
 use Rattle.std.specs.Prelude.{◌==◌}
 use Rattle.std.specs.Int.{bit_at}
 use Rattle.std.specs.List.{AllByRecursion}
@@ -7,11 +7,11 @@ use Rattle.std.proofs.lemmas.Bool.{and_parts, cases_Bool, eqb-false, eqb-true}
 use Rattle.std.proofs.lemmas.Int.{ints}
 use Rattle.std.proofs.lemmas.List.{append-nil}
 use Rattle.sz_calendar.specs.CivilTime.{CivilTime, IsReal}
-use Rattle.sz_der.specs.Content.{bit_of, HasNamedBits, HoldsBits, IsBits}
+use Rattle.sz_der.specs.Content.{bit_of, HasNamedBits, HoldsBits}
 use Rattle.sz_der.specs.Time.{NamesTime}
 use Rattle.sz_x509.specs.Certificate.{Certificate, CertOf, IsKey, IsTbs, IsTime, IsValidity, key_length}
-use Rattle.sz_x509.specs.Extensions.{AreDistinct, AreExtensions, Extension, HasExtensions, IsBasicConstraints, IsExtension, IsFlag, IsKeyUsage, IsUnderstood, Restrict}
-use Rattle.sz_x509.specs.Written.{AreValues, AreWrittenExtensions, CertValues, constraints_extension, is_utc, IsDefaultFalse, IsFrom1950, IsWrittenCert, IsWrittenConstraints, IsWrittenExtension, IsWrittenKey, IsWrittenTbs, IsWrittenTime, IsWrittenValidity, key_id_extension, restrictions_of, Says, signed, time_tag, time_text, usage_extension, usage_octets, usage_of}
+use Rattle.sz_x509.specs.Extensions.{AreDistinct, Extension, HasExtensions, IsBasicConstraints, IsExtension, IsFlag, IsKeyUsage, IsUnderstood, Restrict}
+use Rattle.sz_x509.specs.Written.{AreValues, AreWrittenExtensions, CertValues, constraints_extension, is_utc, IsDefaultFalse, IsWrittenCert, IsWrittenConstraints, IsWrittenExtension, IsWrittenKey, IsWrittenTbs, IsWrittenTime, IsWrittenValidity, key_id_extension, restrictions_of, Says, signed, time_tag, time_text, usage_extension, usage_octets, usage_of}
 
 -- ---- times
 

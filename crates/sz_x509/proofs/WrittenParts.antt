@@ -1,5 +1,5 @@
 -- Parts that a writer joins, one after another in an item.
-use Rattle.std.proofs.Common.{◌≡◌, ℕ, Bool, List, [], ◌∷◌, ◌++◌, length, refl, sym, ap, subst, ◌∙◌, append_assoc}
+use Rattle.std.proofs.Common.{◌≡◌, ℕ, Bool, List, [], ◌∷◌, ◌++◌, length, ap, subst, ◌∙◌, append_assoc}
 use Rattle.sz_der.specs.Der.{Der}
 use Rattle.sz_der.specs.Items.{AppendsInteger, AppendsItem}
 use Rattle.sz_der.specs.declared.tag.TheConstants.{BIT_STRING, OBJECT_IDENTIFIER, OCTET_STRING, SEQUENCE, SET, UTF8_STRING}

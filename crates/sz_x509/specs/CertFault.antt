@@ -178,7 +178,8 @@ extension_fault earlier spot = first_of (
 -- the extensions at the later spots, after those at the earlier ones
 unfoldable pub each_fault : List Spot → List Spot → Option Fault
 each_fault earlier [] = None
-each_fault earlier (spot ∷ later) = first_of (extension_fault earlier spot ∷ each_fault (earlier ++ spot ∷ []) later ∷ [])
+each_fault earlier (spot ∷ later) =
+    first_of (extension_fault earlier spot ∷ each_fault (earlier ++ spot ∷ []) later ∷ [])
 
 -- `[3]` and its SEQUENCE of extensions
 unfoldable pub extensions_fault : Spot → Option Fault

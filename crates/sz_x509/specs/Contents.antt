@@ -85,7 +85,8 @@ is_utc_time text =
     bytes_eq text (utc_text (utc_time_in text)) && (nat_lt (digits_at text 0) 100 && is_real (utc_time_in text))
 
 unfoldable pub is_generalized_time : List ℕ → Bool
-is_generalized_time text = bytes_eq text (generalized_text (generalized_time_in text)) && is_real (generalized_time_in text)
+is_generalized_time text =
+    bytes_eq text (generalized_text (generalized_time_in text)) && is_real (generalized_time_in text)
 
 -- the time that an item of either type names
 abbrev pub time_in : ℕ → List ℕ → CivilTime

@@ -5,6 +5,7 @@ use Rattle.sz_der.specs.Content.{IsBoolean, HoldsBits}
 use Rattle.sz_der.specs.Der.{Der}
 use Rattle.sz_der.specs.Integer.{IsIntegerOf}
 use Rattle.sz_der.specs.declared.tag.TheConstants.{BIT_STRING, BOOLEAN, INTEGER, OBJECT_IDENTIFIER, OCTET_STRING, SEQUENCE}
+use Rattle.sz_x509.specs.Parts.{AreEach}
 use Rattle.sz_x509.specs.declared.identifier.TheConstants.{AUTHORITY_KEY_IDENTIFIER, BASIC_CONSTRAINTS, CERTIFICATE_POLICIES, EXTENDED_KEY_USAGE, KEY_USAGE, SUBJECT_ALT_NAME, SUBJECT_KEY_IDENTIFIER}
 use Rattle.sz_x509.specs.declared.tag.TheConstants.{EXTENSIONS}
 
@@ -31,9 +32,7 @@ pub record IsExtension (extension : Extension) (bytes : List ℕ) : Type 0 where
 
 -- extensions one after another
 abbrev pub AreExtensions : List Extension → List ℕ → Type 0
-AreExtensions [] bytes = bytes ≡ []
-AreExtensions (extension ∷ extensions) bytes =
-    (whole : List ℕ) × (rest : List ℕ) × IsExtension extension whole × (bytes ≡ whole ++ rest) × AreExtensions extensions rest
+AreExtensions extensions bytes = AreEach IsExtension extensions bytes
 
 -- `[3]` and a SEQUENCE of extensions, which may be empty; or no extensions, and nothing written
 abbrev pub AreInField : List Extension → List ℕ → Type 0
@@ -71,7 +70,8 @@ value_of identifier extensions =
 -- the path length of basicConstraints, of 32 bits
 abbrev pub IsPathLength : Option ℕ → List ℕ → Type 0
 IsPathLength None bytes = bytes ≡ []
-IsPathLength (Some n) bytes = (n < 2 ^ 32) × ((content : List ℕ) × IsIntegerOf (pos n) content × Der INTEGER content bytes)
+IsPathLength (Some n) bytes =
+    (n < 2 ^ 32) × ((content : List ℕ) × IsIntegerOf (pos n) content × Der INTEGER content bytes)
 
 -- BasicConstraints (4.2.1.9)
 pub record IsBasicConstraints (ca : Bool) (path_len : Option ℕ) (bytes : List ℕ) : Type 0 where
@@ -112,7 +112,8 @@ HasKeyIdentifier (Some value) key_id = (octets : List ℕ) × (key_id ≡ Some o
 pub record Restrict (extensions : List Extension) (restrictions : Restrictions) : Type 0 where
   pub distinct : AreDistinct extensions
   pub understood : AllByRecursion IsUnderstood extensions
-  pub basic_constraints : HasBasicConstraints (value_of BASIC_CONSTRAINTS extensions) restrictions.ca restrictions.path_len
+  pub basic_constraints :
+      HasBasicConstraints (value_of BASIC_CONSTRAINTS extensions) restrictions.ca restrictions.path_len
   pub key_usage : HasKeyUsage (value_of KEY_USAGE extensions) restrictions.usage
   pub key_identifier : HasKeyIdentifier (value_of SUBJECT_KEY_IDENTIFIER extensions) restrictions.key_id
 

@@ -5,4 +5,8 @@ pub mod Parts
 pub mod CertFault
 pub mod CertPlaces
 pub mod View
+pub mod RevocationList
+pub mod CrlFault
+pub mod CrlPlaces
+pub mod CrlView
 pub mod Written

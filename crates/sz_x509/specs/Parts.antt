@@ -1,5 +1,5 @@
 -- Parts of a format at their places, and rules that they break: words for a table of faults.
-use Rattle.std.specs.Prelude.{◌≡◌, ℕ, ◌+◌, ◌-◌, ◌&&◌, ◌==◌, not, if◌then◌else◌, Bool, List, [], ◌∷◌, length, take, drop, slice_index, Option, Some, None, is_some, zero, suc}
+use Rattle.std.specs.Prelude.{◌≡◌, ℕ, ◌+◌, ◌-◌, ◌&&◌, ◌==◌, not, if◌then◌else◌, Bool, List, [], ◌∷◌, ◌++◌, length, take, drop, slice_index, Option, Some, None, is_some, zero, suc}
 use Rattle.sz_der.specs.Fault.{fault_of, header_size, content_size}
 use Rattle.sz_der.specs.Reader.{place_of}
 use Rattle.sz_der.specs.declared.item.Item.{Item}
@@ -73,6 +73,12 @@ spots_upto (suc n) spot = if is_at_end spot then [] else spot ∷ spots_upto n (
 abbrev pub spots_from : Spot → List Spot
 spots_from spot = spots_upto (length spot.left) spot
 
+-- strings one after another, each of what it is to be
+abbrev pub AreEach : {A : Type 0} → (A → List ℕ → Type 0) → List A → List ℕ → Type 0
+AreEach Is [] bytes = bytes ≡ []
+AreEach Is (one ∷ others) bytes =
+    (whole : List ℕ) × (rest : List ℕ) × Is one whole × (bytes ≡ whole ++ rest) × AreEach Is others rest
+
 -- ---- rules, each with the kind of its fault
 
 -- the first rule that is broken
@@ -104,3 +110,8 @@ no_end broken other spot =
 -- where an item with this tag is next, these rules
 abbrev pub if_next : {A : Type 0} → ℕ → Spot → List (Option A) → Option A
 if_next tag spot rules = if is_next tag spot then first_of rules else None
+
+-- the first fault of the items at these spots
+unfoldable pub each : {A : Type 0} → (Spot → Option A) → List Spot → Option A
+each fault [] = None
+each fault (spot ∷ spots) = first_of (fault spot ∷ each fault spots ∷ [])

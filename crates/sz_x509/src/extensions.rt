@@ -43,7 +43,8 @@ const UNRESTRICTED: Restrictions<'static> = Restrictions {
 /// Takes `[3]` and the extensions in it, where it is there.
 pub(crate) fn take_extensions<'a>(reader: &mut DerReader<'a>) -> Result<Restrictions<'a>, CertFault>
     ensures ok { OnOk result (extensions_fault (spot_of reader.old) ≡ None) }
-    ensures restricted { IfOk result (λ found. RestrictedAt (extension_spots (spot_of reader.old)) (extensions_of found)) }
+    ensures restricted { IfOk result (λ found.
+        RestrictedAt (extension_spots (spot_of reader.old)) (extensions_of found)) }
     ensures next { OnOk result (spot_of reader.new ≡ after_optional EXTENSIONS (spot_of reader.old)) }
     ensures fault { IfErr result (λ fault. extensions_fault (spot_of reader.old) ≡ Some (at fault)) }
 {

@@ -1,10 +1,14 @@
-//! Certificates (RFC 5280) with HSS/LMS keys and signatures (RFC 8708), read from a slice without taking memory.
+//! Certificates and revocation lists (RFC 5280) with HSS/LMS keys and signatures (RFC 8708), read from a slice without
+//! taking memory.
 //!
-//! `Cert::read` answers a certificate exactly where the bytes are one, as slices of them, and else the first fault,
-//! with its place. The law says that bytes have no fault exactly where they are those of a certificate.
+//! `Cert::read` answers a certificate, and `Crl::read` a revocation list, exactly where the bytes are one, as slices
+//! of them, and else the first fault, with its place. `Crl::lists` tells whether an entry has a serial number. The laws
+//! say that bytes have no fault exactly where they are those of a certificate, or of a list.
 #![tactic(auto)]
 
 mod cert;
+mod crl;
+mod entries;
 mod extensions;
 mod fault;
 pub mod identifier;
@@ -12,11 +16,13 @@ mod laws;
 mod parts;
 pub mod tag;
 mod tbs;
+mod tbs_list;
 mod writing;
 
 pub use cert::Cert;
+pub use crl::Crl;
 pub use fault::{CertFault, CertKind};
-pub use laws::fault_or_certificate;
+pub use laws::{fault_or_certificate, fault_or_list};
 pub use writing::{CertSpec, is_writable, write_cert, write_tbs};
 
 #[cfg(test)]

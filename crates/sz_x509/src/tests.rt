@@ -1,5 +1,6 @@
 //! Certificates that other software made, one spelled by hand, what its parts may be, and each fault at its place.
 
+mod lists;
 mod vectors;
 
 use crate::{Cert, CertFault, CertKind};
@@ -212,7 +213,8 @@ const EXTENSIONS: [(&[u8], bool, Option<u32>, Option<u16>); 13] = [
         None,
     ),
     (
-        b"\xA3\x1A\x30\x18\x30\x0A\x06\x03\x55\x1D\x11\x01\x01\xFF\x04\x00\x30\x0A\x06\x03\x55\x1D\x20\x01\x01\xFF\x04\x00",
+        b"\xA3\x1A\x30\x18\x30\x0A\x06\x03\x55\x1D\x11\x01\x01\xFF\x04\x00\
+            \x30\x0A\x06\x03\x55\x1D\x20\x01\x01\xFF\x04\x00",
         false,
         None,
         None,

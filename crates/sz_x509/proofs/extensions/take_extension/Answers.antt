@@ -20,7 +20,11 @@ pub returns-in_err-identifier-clause-fault : goal.returns-in_err-identifier-clau
 unfolding extension_fault identifier_at flag_spot value_spot
 returns-in_err-identifier-clause-fault c = λ earlier lead.
     let inner = c.parts_of-parts.ensures (spot_of c.args.reader.now) c.in_ok-extension.ensures.item in
-    exit _ _ c.in_err-identifier.field-0.0 c.from_residual-in_err-identifier.ensures.1 (rw (c.in_ok-extension.ensures.ok, ← inner, c.in_err-identifier.ensures.fault) refl)
+    exit _ _ c.in_err-identifier.field-0.0 c.from_residual-in_err-identifier.ensures.1 (rw (
+      c.in_ok-extension.ensures.ok,
+      ← inner,
+      c.in_err-identifier.ensures.fault,
+    ) refl)
 
 pub returns-then-stands_before-clause-fault : goal.returns-then-stands_before-clause-fault
 unfolding extension_fault identifier_at flag_spot value_spot
@@ -39,7 +43,14 @@ returns-in_err-take_flag-clause-fault c = λ earlier lead.
     let new : stands_among earlier (content_at (spot_of c.parts_of-parts.result)) ≡ false =
     ap (λ identifier. stands_among earlier identifier) (sym c.in_ok-identifier.ensures.item.content) ∙ sym (c.stands_before.ensures earlier lead)
     ∙ c.if-stands_before.false in
-    exit _ _ c.in_err-take_flag.field-0.0 c.from_residual-in_err-take_flag.ensures.1 (rw (c.in_ok-extension.ensures.ok, ← inner, c.in_ok-identifier.ensures.ok, new, ← c.in_ok-identifier.ensures.next, c.in_err-take_flag.ensures.fault) refl)
+    exit _ _ c.in_err-take_flag.field-0.0 c.from_residual-in_err-take_flag.ensures.1 (rw (
+      c.in_ok-extension.ensures.ok,
+      ← inner,
+      c.in_ok-identifier.ensures.ok,
+      new,
+      ← c.in_ok-identifier.ensures.next,
+      c.in_err-take_flag.ensures.fault,
+    ) refl)
 
 pub returns-then-not-is_known-clause-fault : goal.returns-then-not-is_known-clause-fault
 unfolding extension_fault identifier_at flag_spot value_spot
@@ -50,7 +61,17 @@ returns-then-not-is_known-clause-fault c = λ earlier lead.
     ∙ c.if-stands_before.false in
     let unknown : is_known (content_at (spot_of c.parts_of-parts.result)) ≡ false =
     ap is_known (sym c.in_ok-identifier.ensures.item.content) ∙ sym c.is_known.ensures ∙ c.if-not-is_known.true in
-    rw (c.in_ok-extension.ensures.ok, ← inner, c.in_ok-identifier.ensures.ok, new, ← c.in_ok-identifier.ensures.next, c.in_ok-take_flag.ensures.ok, ← c.in_ok-take_flag.ensures.flag, c.if-branch.true, unknown)
+    rw (
+      c.in_ok-extension.ensures.ok,
+      ← inner,
+      c.in_ok-identifier.ensures.ok,
+      new,
+      ← c.in_ok-identifier.ensures.next,
+      c.in_ok-take_flag.ensures.ok,
+      ← c.in_ok-take_flag.ensures.flag,
+      c.if-branch.true,
+      unknown,
+    )
     (ap (λ (x : Fault). Some x) (sym (c.fault_of-then-not-is_known.ensures (spot_of c.args.reader.now) c.in_ok-extension.ensures.item)))
 
 pub returns-in_err-value-clause-fault : goal.returns-in_err-value-clause-fault
@@ -67,7 +88,17 @@ returns-in_err-value-clause-fault c = λ earlier lead.
       | else-branch-via-then-branch+else-not-is_known w ↦ or_right _ _ (sym known ∙ sym w.is_known.ensures ∙ w.if-not-is_known.false)
       | else-branch-via-else-branch w ↦ or_left _ _ (not_from_false _ (sym flag ∙ w.if-branch.false))
     ] in
-    exit _ _ c.in_err-value.field-0.0 c.from_residual-in_err-value.ensures.1 (rw (c.in_ok-extension.ensures.ok, ← inner, c.in_ok-identifier.ensures.ok, new, ← c.in_ok-identifier.ensures.next, c.in_ok-take_flag.ensures.ok, told, ← c.in_ok-take_flag.ensures.next, c.in_err-value.ensures.fault) refl)
+    exit _ _ c.in_err-value.field-0.0 c.from_residual-in_err-value.ensures.1 (rw (
+      c.in_ok-extension.ensures.ok,
+      ← inner,
+      c.in_ok-identifier.ensures.ok,
+      new,
+      ← c.in_ok-identifier.ensures.next,
+      c.in_ok-take_flag.ensures.ok,
+      told,
+      ← c.in_ok-take_flag.ensures.next,
+      c.in_err-value.ensures.fault,
+    ) refl)
 
 pub returns-in_err-expect_end-clause-fault : goal.returns-in_err-expect_end-clause-fault
 unfolding extension_fault identifier_at flag_spot value_spot
@@ -83,7 +114,19 @@ returns-in_err-expect_end-clause-fault c = λ earlier lead.
       | else-branch-via-then-branch+else-not-is_known w ↦ or_right _ _ (sym known ∙ sym w.is_known.ensures ∙ w.if-not-is_known.false)
       | else-branch-via-else-branch w ↦ or_left _ _ (not_from_false _ (sym flag ∙ w.if-branch.false))
     ] in
-    exit _ _ c.in_err-expect_end.field-0.0 c.from_residual-in_err-expect_end.ensures.1 (rw (c.in_ok-extension.ensures.ok, ← inner, c.in_ok-identifier.ensures.ok, new, ← c.in_ok-identifier.ensures.next, c.in_ok-take_flag.ensures.ok, told, ← c.in_ok-take_flag.ensures.next, c.in_ok-value.ensures.ok, ← c.in_ok-value.ensures.next, c.in_err-expect_end.ensures.fault) refl)
+    exit _ _ c.in_err-expect_end.field-0.0 c.from_residual-in_err-expect_end.ensures.1 (rw (
+      c.in_ok-extension.ensures.ok,
+      ← inner,
+      c.in_ok-identifier.ensures.ok,
+      new,
+      ← c.in_ok-identifier.ensures.next,
+      c.in_ok-take_flag.ensures.ok,
+      told,
+      ← c.in_ok-take_flag.ensures.next,
+      c.in_ok-value.ensures.ok,
+      ← c.in_ok-value.ensures.next,
+      c.in_err-expect_end.ensures.fault,
+    ) refl)
 
 pub returns-clause-ok : goal.returns-clause-ok
 unfolding extension_fault identifier_at flag_spot value_spot
@@ -100,7 +143,22 @@ returns-clause-ok c = λ earlier lead.
       | else-branch-via-else-branch w ↦ or_left _ _ (not_from_false _ (sym flag ∙ w.if-branch.false))
     ] in
     MatchResult-weaker c.read_value.result c.read_value.ensures.ok
-    (λ x (e : value_fault c.in_ok-identifier.field-0.content.now (spot_of c.in_ok-value.value) ≡ None). rw (c.in_ok-extension.ensures.ok, ← inner, c.in_ok-identifier.ensures.ok, new, ← c.in_ok-identifier.ensures.next, c.in_ok-take_flag.ensures.ok, told, ← c.in_ok-take_flag.ensures.next, c.in_ok-value.ensures.ok, ← c.in_ok-value.ensures.next, c.in_ok-expect_end.ensures.ok, ← c.in_ok-value.ensures.inside, ← c.in_ok-identifier.ensures.item.content, e) refl) (λ x h. h)
+    (λ x (e : value_fault c.in_ok-identifier.field-0.content.now (spot_of c.in_ok-value.value) ≡ None). rw (
+      c.in_ok-extension.ensures.ok,
+      ← inner,
+      c.in_ok-identifier.ensures.ok,
+      new,
+      ← c.in_ok-identifier.ensures.next,
+      c.in_ok-take_flag.ensures.ok,
+      told,
+      ← c.in_ok-take_flag.ensures.next,
+      c.in_ok-value.ensures.ok,
+      ← c.in_ok-value.ensures.next,
+      c.in_ok-expect_end.ensures.ok,
+      ← c.in_ok-value.ensures.inside,
+      ← c.in_ok-identifier.ensures.item.content,
+      e,
+    ) refl) (λ x h. h)
 
 pub returns-clause-fault : goal.returns-clause-fault
 unfolding extension_fault identifier_at flag_spot value_spot
@@ -117,7 +175,22 @@ returns-clause-fault c = λ earlier lead.
       | else-branch-via-else-branch w ↦ or_left _ _ (not_from_false _ (sym flag ∙ w.if-branch.false))
     ] in
     MatchResult-weaker c.read_value.result c.read_value.ensures.fault (λ x h. h)
-    (λ x e. rw (c.in_ok-extension.ensures.ok, ← inner, c.in_ok-identifier.ensures.ok, new, ← c.in_ok-identifier.ensures.next, c.in_ok-take_flag.ensures.ok, told, ← c.in_ok-take_flag.ensures.next, c.in_ok-value.ensures.ok, ← c.in_ok-value.ensures.next, c.in_ok-expect_end.ensures.ok, ← c.in_ok-value.ensures.inside, ← c.in_ok-identifier.ensures.item.content, e) refl)
+    (λ x e. rw (
+      c.in_ok-extension.ensures.ok,
+      ← inner,
+      c.in_ok-identifier.ensures.ok,
+      new,
+      ← c.in_ok-identifier.ensures.next,
+      c.in_ok-take_flag.ensures.ok,
+      told,
+      ← c.in_ok-take_flag.ensures.next,
+      c.in_ok-value.ensures.ok,
+      ← c.in_ok-value.ensures.next,
+      c.in_ok-expect_end.ensures.ok,
+      ← c.in_ok-value.ensures.inside,
+      ← c.in_ok-identifier.ensures.item.content,
+      e,
+    ) refl)
 
 pub returns-clause-adds : goal.returns-clause-adds
 unfolding identifier_at flag_spot value_spot

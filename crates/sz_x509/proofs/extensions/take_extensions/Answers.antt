@@ -30,25 +30,55 @@ pub returns-in_err-extensions-clause-fault : goal.returns-in_err-extensions-clau
 unfolding extensions_fault
 returns-in_err-extensions-clause-fault c =
     let inner = c.parts_of-field.ensures (spot_of c.args.reader.now) c.in_ok-item.ensures.item in
-    exit _ _ c.in_err-extensions.field-0.0 c.from_residual-in_err-extensions.ensures.1 (rw (sym c.is_next.ensures ∙ c.if-not-is_next.false, c.in_ok-item.ensures.ok, ← inner, c.in_err-extensions.ensures.fault) refl)
+    exit _ _ c.in_err-extensions.field-0.0 c.from_residual-in_err-extensions.ensures.1 (rw (
+      sym c.is_next.ensures ∙ c.if-not-is_next.false,
+      c.in_ok-item.ensures.ok,
+      ← inner,
+      c.in_err-extensions.ensures.fault,
+    ) refl)
 
 pub returns-in_err-restrictions-clause-fault : goal.returns-in_err-restrictions-clause-fault
 unfolding extensions_fault
 returns-in_err-restrictions-clause-fault c =
     let inner = c.parts_of-field.ensures (spot_of c.args.reader.now) c.in_ok-item.ensures.item in
-    exit _ _ c.in_err-restrictions.field-0.0 c.from_residual-in_err-restrictions.ensures.1 (rw (sym c.is_next.ensures ∙ c.if-not-is_next.false, c.in_ok-item.ensures.ok, ← inner, c.in_ok-extensions.ensures.ok, ← c.in_ok-extensions.ensures.inside, c.in_err-restrictions.ensures.fault) refl)
+    exit _ _ c.in_err-restrictions.field-0.0 c.from_residual-in_err-restrictions.ensures.1 (rw (
+      sym c.is_next.ensures ∙ c.if-not-is_next.false,
+      c.in_ok-item.ensures.ok,
+      ← inner,
+      c.in_ok-extensions.ensures.ok,
+      ← c.in_ok-extensions.ensures.inside,
+      c.in_err-restrictions.ensures.fault,
+    ) refl)
 
 pub returns-in_err-expect_end-clause-fault : goal.returns-in_err-expect_end-clause-fault
 unfolding extensions_fault
 returns-in_err-expect_end-clause-fault c =
     let inner = c.parts_of-field.ensures (spot_of c.args.reader.now) c.in_ok-item.ensures.item in
-    exit _ _ c.in_err-expect_end.field-0.0 c.from_residual-in_err-expect_end.ensures.1 (rw (sym c.is_next.ensures ∙ c.if-not-is_next.false, c.in_ok-item.ensures.ok, ← inner, c.in_ok-extensions.ensures.ok, ← c.in_ok-extensions.ensures.inside, c.in_ok-restrictions.ensures.ok, ← c.in_ok-extensions.ensures.next, c.in_err-expect_end.ensures.fault) refl)
+    exit _ _ c.in_err-expect_end.field-0.0 c.from_residual-in_err-expect_end.ensures.1 (rw (
+      sym c.is_next.ensures ∙ c.if-not-is_next.false,
+      c.in_ok-item.ensures.ok,
+      ← inner,
+      c.in_ok-extensions.ensures.ok,
+      ← c.in_ok-extensions.ensures.inside,
+      c.in_ok-restrictions.ensures.ok,
+      ← c.in_ok-extensions.ensures.next,
+      c.in_err-expect_end.ensures.fault,
+    ) refl)
 
 pub returns-clause-ok : goal.returns-clause-ok
 unfolding extensions_fault
 returns-clause-ok c =
     let inner = c.parts_of-field.ensures (spot_of c.args.reader.now) c.in_ok-item.ensures.item in
-    rw (sym c.is_next.ensures ∙ c.if-not-is_next.false, c.in_ok-item.ensures.ok, ← inner, c.in_ok-extensions.ensures.ok, ← c.in_ok-extensions.ensures.inside, c.in_ok-restrictions.ensures.ok, ← c.in_ok-extensions.ensures.next, c.in_ok-expect_end.ensures.ok) refl
+    rw (
+      sym c.is_next.ensures ∙ c.if-not-is_next.false,
+      c.in_ok-item.ensures.ok,
+      ← inner,
+      c.in_ok-extensions.ensures.ok,
+      ← c.in_ok-extensions.ensures.inside,
+      c.in_ok-restrictions.ensures.ok,
+      ← c.in_ok-extensions.ensures.next,
+      c.in_ok-expect_end.ensures.ok,
+    ) refl
 
 pub returns-clause-restricted : goal.returns-clause-restricted
 returns-clause-restricted c =

@@ -20,7 +20,11 @@ returns-in_err-parts-clause-fault c =
 pub returns-in_err-version-clause-fault : goal.returns-in_err-version-clause-fault
 unfolding version_fault
 returns-in_err-version-clause-fault c =
-    exit _ _ c.in_err-version.field-0.0 c.from_residual-in_err-version.ensures.1 (rw (c.in_ok-parts.ensures.ok, ← c.in_ok-parts.ensures.inside, c.in_err-version.ensures.fault) refl)
+    exit _ _ c.in_err-version.field-0.0 c.from_residual-in_err-version.ensures.1 (rw (
+      c.in_ok-parts.ensures.ok,
+      ← c.in_ok-parts.ensures.inside,
+      c.in_err-version.ensures.fault,
+    ) refl)
 
 pub returns-in_default-clause-fault : goal.returns-in_default-clause-fault
 unfolding version_fault
@@ -52,7 +56,15 @@ returns-clause-ok c =
     ap (λ (x : List ℕ). bytes_eq x (2 ∷ [])) (sym c.in_ok-version.ensures.item.content ∙ sym c.in-Ok.ensures.value)
     ∙ compared c.in-Ok.octets.now (2 ∷ []) c.as_slice.result.now c.as_slice.ensures ∙ not-false _ (sym c.if-ne.ensures) in
     MatchResult-weaker c.expect_end.result c.expect_end.ensures.ok
-    (λ x (e : end kinds.Version (spot_of c.take_part.new.reader) ≡ None). rw (c.in_ok-parts.ensures.ok, ← c.in_ok-parts.ensures.inside, c.in_ok-version.ensures.ok, minimal, is, ← c.in_ok-version.ensures.next, e) refl) (λ x h. h)
+    (λ x (e : end kinds.Version (spot_of c.take_part.new.reader) ≡ None). rw (
+      c.in_ok-parts.ensures.ok,
+      ← c.in_ok-parts.ensures.inside,
+      c.in_ok-version.ensures.ok,
+      minimal,
+      is,
+      ← c.in_ok-version.ensures.next,
+      e,
+    ) refl) (λ x h. h)
 
 pub returns-clause-fault : goal.returns-clause-fault
 unfolding version_fault
@@ -63,4 +75,12 @@ returns-clause-fault c =
     ap (λ (x : List ℕ). bytes_eq x (2 ∷ [])) (sym c.in_ok-version.ensures.item.content ∙ sym c.in-Ok.ensures.value)
     ∙ compared c.in-Ok.octets.now (2 ∷ []) c.as_slice.result.now c.as_slice.ensures ∙ not-false _ (sym c.if-ne.ensures) in
     MatchResult-weaker c.expect_end.result c.expect_end.ensures.fault (λ x h. h)
-    (λ x e. rw (c.in_ok-parts.ensures.ok, ← c.in_ok-parts.ensures.inside, c.in_ok-version.ensures.ok, minimal, is, ← c.in_ok-version.ensures.next, e) refl)
+    (λ x e. rw (
+      c.in_ok-parts.ensures.ok,
+      ← c.in_ok-parts.ensures.inside,
+      c.in_ok-version.ensures.ok,
+      minimal,
+      is,
+      ← c.in_ok-version.ensures.next,
+      e,
+    ) refl)

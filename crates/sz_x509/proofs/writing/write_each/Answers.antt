@@ -1,4 +1,3 @@
-use Rattle.std.proofs.Common.{◌≡◌, ℕ, List}
 use Rattle.std.proofs.lemmas.Result.{IfOk-weaker}
 use Rattle.sz_der.specs.Der.{Der}
 use Rattle.sz_der.specs.declared.tag.TheConstants.{SEQUENCE}

@@ -1,4 +1,3 @@
-use Rattle.std.proofs.Common.{◌≡◌, refl}
 use Rattle.std.proofs.lemmas.Result.{on_ok_weaker}
 use Rattle.sz_der.specs.declared.tag.TheConstants.{SEQUENCE}
 use Rattle.sz_x509.specs.Written.{Appends, AreValues, Holds, values_of}

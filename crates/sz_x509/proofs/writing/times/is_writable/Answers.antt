@@ -1,11 +1,11 @@
-use Rattle.std.proofs.Common.{◌≡◌, inl, inr, ℤ, pos, ◌≤ℤ◌, IsTrue, subst, arith, FitsSigned, w16, w64}
+use Rattle.std.proofs.Common.{inl, inr, ℤ, pos, ◌≤ℤ◌, IsTrue, subst, arith, FitsSigned, w16, w64}
 use Rattle.std.specs.Prelude.{int_le}
 use Rattle.std.proofs.lemmas.Bool.{cases_Bool}
 use Rattle.std.proofs.lemmas.Int.{ints, to_z-of_z}
 use Rattle.sz_calendar.proofs.Seconds.{IsDated-unix_seconds, one_time}
 use Rattle.sz_calendar.specs.CivilTime.{CivilTime, IsDated, IsTimeAt}
 use Rattle.sz_calendar.specs.DateTime.{civil_time}
-use Rattle.sz_x509.specs.Written.{IsFrom1950, IsWritable}
+use Rattle.sz_x509.specs.Written.{IsWritable}
 use Rattle.sz_x509.proofs.writing.times.is_writable.Goals as goal
 
 from_test : (seconds : ℤ) (time : CivilTime) → IsTimeAt seconds time → IsTrue (int_le (pos 1950) time.year) → IsWritable seconds

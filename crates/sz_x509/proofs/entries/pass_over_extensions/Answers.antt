@@ -1,0 +1,28 @@
+use Rattle.std.proofs.Common.{◌≡◌, false, List, sym, ap, ◌∙◌}
+use Rattle.sz_x509.specs.CrlFault.{passed_over_fault}
+use Rattle.sz_x509.specs.Parts.{after, each, is_at_end, Spot, spot_of, spots_from}
+use Rattle.sz_x509.proofs.Each.{each_of_none, each_on, each_stops}
+use Rattle.sz_x509.proofs.Steps.{exit, not_at_end}
+use Rattle.sz_x509.proofs.Walking.{none_left, or_none, spots_step}
+use Rattle.sz_x509.proofs.entries.pass_over_extensions.Goals as goal
+
+pub returns-in_err-pass_over_extension-clause-fault : goal.returns-in_err-pass_over_extension-clause-fault
+returns-in_err-pass_over_extension-clause-fault c =
+    let here = spot_of c.loop-reader.reader in
+    let more : is_at_end here ≡ false = not_at_end c.loop-reader.reader c.is_at_end.result c.is_at_end.ensures c.loop-reader-test.true in
+    exit _ _ c.in_err-pass_over_extension.field-0.0 c.from_residual.ensures.1
+    (c.loop-reader.invariant ∙ ap (λ (x : List Spot). each passed_over_fault x) (spots_step here more)
+    ∙ each_stops passed_over_fault here (spots_from (after here)) _ c.in_err-pass_over_extension.ensures.fault)
+
+pub loop-reader-preserved : goal.loop-reader-preserved
+loop-reader-preserved c =
+    let here = spot_of c.loop-reader.reader in
+    let more : is_at_end here ≡ false = not_at_end c.loop-reader.reader c.is_at_end.result c.is_at_end.ensures c.loop-reader-test.true in
+    c.loop-reader.invariant ∙ ap (λ (x : List Spot). each passed_over_fault x) (spots_step here more)
+    ∙ each_on passed_over_fault here (spots_from (after here)) c.in_ok-pass_over_extension.ensures.ok ∙ or_none _
+    ∙ ap (λ (s : Spot). each passed_over_fault (spots_from s)) (sym c.in_ok-pass_over_extension.ensures.next)
+
+pub returns-clause-ok : goal.returns-clause-ok
+returns-clause-ok c =
+    let none = none_left c.loop-reader.reader (c.is_at_end.ensures.0 c.loop-reader-test.false) in
+    c.loop-reader.invariant ∙ ap (λ (x : List Spot). each passed_over_fault x) none ∙ each_of_none passed_over_fault
