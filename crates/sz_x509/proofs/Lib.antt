@@ -12,3 +12,4 @@ pub mod Whole
 pub mod OneCertificate
 pub mod WrittenParts
 pub mod WrittenLaw
+pub mod WrittenOnce

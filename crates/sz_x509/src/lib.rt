@@ -17,7 +17,7 @@ mod writing;
 pub use cert::Cert;
 pub use fault::{CertFault, CertKind};
 pub use laws::fault_or_certificate;
-pub use writing::{CertSpec, is_writable, write_cert, write_tbs};
+pub use writing::{CertSpec, is_writable, write_cert, write_tbs, written_once};
 
 #[cfg(test)]
 mod tests;
