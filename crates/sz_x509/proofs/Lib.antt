@@ -16,3 +16,4 @@ pub mod CrlWhole
 pub mod Listing
 pub mod WrittenParts
 pub mod WrittenLaw
+pub mod WrittenOnce

@@ -5,6 +5,7 @@ ghost use Rattle.sz_x509.specs.Certificate.{Certificate, CertOf, IsTbs, IsVersio
 ghost use Rattle.sz_x509.specs.Written.{Appends, IsWritable, IsWrittenCert, IsWrittenKey, IsWrittenTbs, IsWrittenValidity, Says, signed, values_of};
 
 mod extensions;
+mod laws;
 mod parts;
 mod times;
 
@@ -14,6 +15,7 @@ use std::alloc::Global;
 use sz_base::{Bytes, OutOfMemory, Seconds, Text};
 use sz_der::DerWriter;
 use sz_der::tag::{CONTEXT_CONSTRUCTED, INTEGER, OCTET_STRING, SEQUENCE};
+pub use laws::written_once;
 pub use times::is_writable;
 use times::write_time;
 
