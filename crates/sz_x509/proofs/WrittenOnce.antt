@@ -1,13 +1,13 @@
 -- What is written of given values is one string.
-use Rattle.std.proofs.Common.{◌≡◌, ℕ, ℤ, Bool, true, false, List, [], ◌∷◌, ◌++◌, Option, Some, None, refl, sym, ap, subst, ◌∙◌}
+use Rattle.std.proofs.Common.{◌≡◌, ℕ, ℤ, Bool, true, false, List, ◌++◌, Option, Some, None, refl, sym, ap, subst, ◌∙◌}
 use Rattle.sz_calendar.specs.CivilTime.{CivilTime}
 use Rattle.sz_calendar.proofs.Seconds.{one_time}
 use Rattle.sz_der.specs.Der.{Der}
 use Rattle.sz_der.proofs.Apart.{one_string}
 use Rattle.sz_der.proofs.Values.{one_content}
-use Rattle.sz_x509.specs.Certificate.{IsAlgorithm, IsSignature, IsVersion3}
+use Rattle.sz_x509.specs.Certificate.{IsAlgorithm, IsVersion3}
 use Rattle.sz_x509.specs.Extensions.{Extension, IsPathLength}
-use Rattle.sz_x509.specs.Written.{AreValues, AreWrittenExtensions, CertValues, constraints_extension, IsCommonName, IsDefaultFalse, IsWrittenCert, IsWrittenConstraints, IsWrittenExtension, IsWrittenKey, IsWrittenSerial, IsWrittenTbs, IsWrittenTime, IsWrittenValidity, key_id_extension, time_tag, time_text, usage_extension}
+use Rattle.sz_x509.specs.Written.{AreWrittenExtensions, CertValues, constraints_extension, IsCommonName, IsDefaultFalse, IsWrittenCert, IsWrittenConstraints, IsWrittenExtension, IsWrittenKey, IsWrittenSerial, IsWrittenTbs, IsWrittenTime, IsWrittenValidity, key_id_extension, time_tag, time_text, usage_extension}
 use Rattle.sz_x509.proofs.WrittenParts.{Der_of}
 
 -- ---- strings

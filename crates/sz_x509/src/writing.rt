@@ -10,12 +10,12 @@ mod parts;
 mod times;
 
 use extensions::write_extensions;
+pub use laws::written_once;
 use parts::{item_of, write_algorithm, write_holder, write_name, write_octets};
 use std::alloc::Global;
 use sz_base::{Bytes, OutOfMemory, Seconds, Text};
 use sz_der::DerWriter;
 use sz_der::tag::{CONTEXT_CONSTRUCTED, INTEGER, OCTET_STRING, SEQUENCE};
-pub use laws::written_once;
 pub use times::is_writable;
 use times::write_time;
 
