@@ -4,7 +4,8 @@
 //! `Cert::read` answers a certificate, and `Crl::read` a revocation list, exactly where the bytes are one, as slices
 //! of them, and else the first fault, with its place. `Crl::lists` tells whether an entry has a serial number. The laws
 //! say that bytes have no fault exactly where they are those of a certificate, or of a list.
-//! `write_tbs` and `write_cert` write a certificate of given values, which is one string of bytes and says these values.
+//! `write_tbs` and `write_cert` write a certificate of given values, which is one string of bytes and says these
+//! values.
 #![tactic(auto)]
 
 mod cert;
