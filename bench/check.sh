@@ -36,15 +36,17 @@ without=$(openssl_nanoseconds ":~0x20000000")
 if grep -q -m1 sha_ni /proc/cpuinfo; then has=yes; else has=no; fi
 echo "openssl: $with ns a compression, $without ns without SHA extensions (this processor has them: $has)"
 
-for name in h5w8 h10w4 h10w1 h5w8-64mib; do
+for name in h5w8 h10w4 h10w1 h5w8-64mib h5w8-1gib; do
     data=$here/data/$name
-    head -c "$(cat "$data/size")" /dev/zero >"$work/message"
+    rm -f "$work/message"
+    truncate -s "$(cat "$data/size")" "$work/message"
     size=$(stat -c %s "$data/signature")
     head -c $((size - 1)) "$data/signature" >"$work/short"
     verdict=$("$program" check "$data/public" "$work/message" "$data/signature")
     [ "$verdict" = valid ] || { echo "$name: $verdict"; exit 1; }
     runs=500
     if [ "$(cat "$data/size")" -gt 1000000 ]; then runs=3; fi
+    if [ "$(cat "$data/size")" -gt 1000000000 ]; then runs=1; fi
     whole=$(batch "$data/public" "$work/message" "$data/signature" $runs)
     empty=$(batch "$data/public" "$work/message" "$work/short" $runs)
     awk -v name="$name" -v count="$(cat "$data/compressions")" -v whole="$whole" -v empty="$empty" \

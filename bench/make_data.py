@@ -2,18 +2,19 @@
 """Makes the keys and signatures that check.sh times, with Python's hashlib alone.
 
 Each folder of data/ gets an HSS public key of one level, a signature, and the number of SHA-256
-compressions that checking it takes by RFC 8554. The message is `SIZE` zero bytes.
+compressions that checking it takes by RFC 8554. The message is zero bytes.
 """
 import hashlib
 import os
 
-SIZE = 64 * 1024 * 1024
+MIB = 1024 * 1024
 # name: (LMS type, height, LM-OTS type, digit width, chains, checksum shift, message size)
 CASES = {
     "h5w8": (5, 5, 4, 8, 34, 0, 55),
     "h10w4": (6, 10, 3, 4, 67, 4, 55),
     "h10w1": (6, 10, 1, 1, 265, 7, 55),
-    "h5w8-64mib": (5, 5, 4, 8, 34, 0, SIZE),
+    "h5w8-64mib": (5, 5, 4, 8, 34, 0, 64 * MIB),
+    "h5w8-1gib": (5, 5, 4, 8, 34, 0, 1024 * MIB),
 }
 
 
@@ -65,7 +66,8 @@ def make(name):
 
     randomizer = secret(q, 0xFFFD)
     message = hashlib.sha256(tree + u32(q) + u16(0x8181) + randomizer)
-    message.update(bytes(size))
+    for start in range(0, size, MIB):
+        message.update(bytes(min(MIB, size - start)))
     signed = message.digest()
     missing = sum(last - one for one in digits(width, signed, 256 // width))
     signed += u16(missing << shift)
