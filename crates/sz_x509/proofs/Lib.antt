@@ -14,6 +14,3 @@ pub mod Each
 pub mod CrlParts
 pub mod CrlWhole
 pub mod Listing
-pub mod WrittenParts
-pub mod WrittenLaw
-pub mod WrittenOnce

@@ -139,8 +139,9 @@ utc_from_test text e =
     let a = and_parts _ _ e in
     let b = and_parts _ _ a.1 in
     let bounds = year_of_two-bounds (digits_at text 0) (ltb-true (digits_at text 0) 100 b.0) in
+    let year = year_of_two (digits_at text 0) in
     record {
-      real = real_from_test (year_of_two (digits_at text 0)) (digits_at text 2) (digits_at text 4) (digits_at text 6) (digits_at text 8) (digits_at text 10) b.1;
+      real = real_from_test year (digits_at text 2) (digits_at text 4) (digits_at text 6) (digits_at text 8) (digits_at text 10) b.1;
       from_1950 = omega (arith, ints, bounds.0);
       to_2049 = omega (arith, ints, bounds.1);
       text = same_bytes text (utc_text (utc_time_in text)) a.0;

@@ -9,4 +9,3 @@ pub mod RevocationList
 pub mod CrlFault
 pub mod CrlPlaces
 pub mod CrlView
-pub mod Written

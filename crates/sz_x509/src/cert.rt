@@ -14,7 +14,7 @@ use sz_der::DerReader;
 use sz_der::tag::SEQUENCE;
 
 /// A certificate. Its parts are slices of the bytes that it was read from.
-#[derive(Clone, Copy, Debug)]
+#[derive(Clone, Copy, Debug, PartialEq, Eq)]
 pub struct Cert<'a> {
     /// The whole certificate.
     pub whole: &'a [u8],

@@ -16,7 +16,7 @@ use sz_der::DerReader;
 use sz_der::tag::SEQUENCE;
 
 /// A revocation list. Its parts are slices of the bytes that it was read from.
-#[derive(Clone, Copy, Debug)]
+#[derive(Clone, Copy, Debug, PartialEq, Eq)]
 pub struct Crl<'a> {
     /// The whole list.
     pub whole: &'a [u8],

@@ -1,6 +1,6 @@
 //! The reader of a certificate's extensions (RFC 5280 section 4.2).
 
-ghost use Rattle.std.specs.Prelude.{◌≡◌, ◌<◌, None, Some, ℕ, List, [], true, false, length, IfOk, IfErr, OnErr, OnOk};
+ghost use Rattle.std.specs.Prelude.{◌≡◌, ◌<◌, None, Some, List, [], true, false, length, IfOk, IfErr, OnErr, OnOk};
 ghost use Rattle.sz_x509.specs.CertFault.{basic_constraints_fault, each_fault, extension_fault, extensions_fault, flag_at, identifier_at, key_identifier_fault, key_usage_fault, path_length_fault, path_length_spot, stands_among, value_fault, value_spot};
 ghost use Rattle.sz_x509.specs.CertPlaces.{Adds, BeginsExtension, extension_spots, LeadHere, path_length_at, RestrictedAt, UsageAt};
 ghost use Rattle.sz_x509.specs.Extensions.{is_known};

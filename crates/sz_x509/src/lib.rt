@@ -4,8 +4,6 @@
 //! `Cert::read` answers a certificate, and `Crl::read` a revocation list, exactly where the bytes are one, as slices
 //! of them, and else the first fault, with its place. `Crl::lists` tells whether an entry has a serial number. The laws
 //! say that bytes have no fault exactly where they are those of a certificate, or of a list.
-//! `write_tbs` and `write_cert` write a certificate of given values, which is one string of bytes and says these
-//! values.
 #![tactic(auto)]
 
 mod cert;
@@ -19,15 +17,11 @@ mod parts;
 pub mod tag;
 mod tbs;
 mod tbs_list;
-mod writing;
 
 pub use cert::Cert;
 pub use crl::Crl;
 pub use fault::{CertFault, CertKind};
 pub use laws::{fault_or_certificate, fault_or_list};
-pub use writing::{CertSpec, is_writable, write_cert, write_tbs, written_once};
 
 #[cfg(test)]
 mod tests;
-#[cfg(test)]
-mod tests_writing;

@@ -44,57 +44,77 @@ const BY_HAND: &[u8] = b"\x30\x81\xBB\x30\x81\xA3\xA0\x03\x02\x01\x02\x02\x01\x0
     abcdefghijklmnopqrstuvwxyz0123456789ABCDEFGHIJKLMNOPQRSTUVWX\
     \x30\x0D\x06\x0B\x2A\x86\x48\x86\xF7\x0D\x01\x09\x10\x03\x11\x03\x04\x00sig";
 
-#[test]
-fn certificates_of_other_software(rt: HostRuntime) -> Result<(), Fail> {
-    let bytes = base64_bytes(rt.alloc(), AUTHORITY.as_bytes())?;
-    let authority = Cert::read(bytes.as_slice())?;
-    assert_eq!(rt; authority.whole.len(), 1568);
-    assert_eq!(rt; authority.tbs.len(), 248);
-    assert_eq!(rt; authority.serial, b"\x14".as_slice());
-    assert_eq!(rt; authority.issuer.len(), 23);
-    assert_eq!(rt; authority.not_before, DAY_1_OF_2020);
-    assert_eq!(rt; authority.not_after, DAY_1_OF_2040);
-    assert_eq!(rt;
-        authority.subject,
-        b"\x30\x0C\x31\x0A\x30\x08\x06\x03\x55\x04\x03\x0C\x01P".as_slice()
-    );
-    assert_eq!(rt; authority.key.len(), 60);
-    assert_eq!(rt; authority.ca, true);
-    assert_eq!(rt; authority.path_len, Some(1));
-    assert_eq!(rt; authority.usage, Some(33));
-    assert_eq!(rt;
-        authority.key_id,
-        Some(
-            b"\x92\x35\x2E\x95\x4E\xB7\x62\xD5\xFF\x18\xAA\x45\xDF\x33\x43\x53\xDE\x1B\x3F\xA0".as_slice()
-        )
-    );
-    assert_eq!(rt; authority.signature.len(), 1296);
+// A part of bytes, which are long enough.
+fn part(bytes: &[u8], from: usize, to: usize) -> &[u8] {
+    bytes.get(from..to).unwrap_or(&[])
+}
 
-    let bytes = base64_bytes(rt.alloc(), OWNER.as_bytes())?;
-    let owner = Cert::read(bytes.as_slice())?;
-    assert_eq!(rt; owner.serial, b"\x18".as_slice());
-    assert_eq!(rt; owner.ca, false);
-    assert_eq!(rt; owner.path_len, None);
-    assert_eq!(rt; owner.usage, Some(1));
-    Ok(())
+// What AUTHORITY says.
+fn authority_in(bytes: &[u8]) -> Cert<'_> {
+    Cert {
+        whole: bytes,
+        tbs: part(bytes, 4, 252),
+        serial: b"\x14",
+        issuer: b"\x30\x15\x31\x13\x30\x11\x06\x03\x55\x04\x03\x0C\x0AOwner Root",
+        not_before: DAY_1_OF_2020,
+        not_after: DAY_1_OF_2040,
+        subject: b"\x30\x0C\x31\x0A\x30\x08\x06\x03\x55\x04\x03\x0C\x01P",
+        key: part(bytes, 121, 181),
+        ca: true,
+        path_len: Some(1),
+        usage: Some(33),
+        key_id: Some(part(bytes, 232, 252)),
+        signature: part(bytes, 272, 1568),
+    }
+}
+
+// What OWNER says.
+fn owner_in(bytes: &[u8]) -> Cert<'_> {
+    Cert {
+        whole: bytes,
+        tbs: part(bytes, 4, 237),
+        serial: b"\x18",
+        issuer: b"\x30\x0C\x31\x0A\x30\x08\x06\x03\x55\x04\x03\x0C\x01C",
+        not_before: DAY_1_OF_2020,
+        not_after: DAY_1_OF_2040,
+        subject: b"\x30\x0C\x31\x0A\x30\x08\x06\x03\x55\x04\x03\x0C\x01O",
+        key: part(bytes, 112, 172),
+        ca: false,
+        path_len: None,
+        usage: Some(1),
+        key_id: Some(part(bytes, 217, 237)),
+        signature: part(bytes, 257, 1553),
+    }
+}
+
+// What BY_HAND says.
+fn by_hand() -> Cert<'static> {
+    Cert {
+        whole: BY_HAND,
+        tbs: part(BY_HAND, 3, 169),
+        serial: b"\x07",
+        issuer: PARTS[3],
+        not_before: DAY_1_OF_2020,
+        not_after: DAY_1_OF_2040,
+        subject: PARTS[5],
+        key: KEY,
+        ca: false,
+        path_len: None,
+        usage: None,
+        key_id: None,
+        signature: b"sig",
+    }
 }
 
 #[test]
-fn one_spelled_by_hand(rt: HostRuntime) -> Result<(), Fail> {
-    let cert = Cert::read(BY_HAND)?;
-    assert_eq!(rt; cert.whole, BY_HAND);
-    assert_eq!(rt; Some(cert.tbs), BY_HAND.get(3..169));
-    assert_eq!(rt; cert.serial, b"\x07".as_slice());
-    assert_eq!(rt; cert.issuer, PARTS[3]);
-    assert_eq!(rt; cert.not_before, DAY_1_OF_2020);
-    assert_eq!(rt; cert.not_after, DAY_1_OF_2040);
-    assert_eq!(rt; cert.subject, PARTS[5]);
-    assert_eq!(rt; cert.key, KEY);
-    assert_eq!(rt; cert.ca, false);
-    assert_eq!(rt; cert.path_len, None);
-    assert_eq!(rt; cert.usage, None);
-    assert_eq!(rt; cert.key_id, None);
-    assert_eq!(rt; cert.signature, b"sig".as_slice());
+fn certificates_with_all_fields(rt: HostRuntime) -> Result<(), Fail> {
+    let authority = base64_bytes(rt.alloc(), AUTHORITY.as_bytes())?;
+    let authority = authority.as_slice();
+    assert_eq!(rt; Cert::read(authority), Ok(authority_in(authority)));
+    let owner = base64_bytes(rt.alloc(), OWNER.as_bytes())?;
+    let owner = owner.as_slice();
+    assert_eq!(rt; Cert::read(owner), Ok(owner_in(owner)));
+    assert_eq!(rt; Cert::read(BY_HAND), Ok(by_hand()));
     Ok(())
 }
 
@@ -105,17 +125,23 @@ fn sequence(alloc: Global, content: &[u8]) -> Result<Bytes, OutOfMemory> {
     Ok(writer.finish())
 }
 
-// The certificate of these parts, where the part at the place is another one.
-fn spelled(alloc: Global, place: usize, other: &[u8]) -> Result<Bytes, sz_base::OutOfMemory> {
+// The signed item of the first parts, with the two parts after them, in a SEQUENCE, and the last part behind it; the
+// part at the place is another one.
+fn spelled(
+    alloc: Global,
+    parts: &[&[u8]],
+    place: usize,
+    other: &[u8],
+) -> Result<Bytes, sz_base::OutOfMemory> {
     let mut tbs = Bytes::create(alloc);
     let mut outer = Bytes::create(alloc);
     let mut behind = Bytes::create(alloc);
-    for (i, part) in PARTS.iter().enumerate() {
+    for (i, part) in parts.iter().enumerate() {
         let bytes = if i == place { other } else { *part };
-        match i {
-            0..=8 => tbs.append(bytes)?,
-            9 | 10 => outer.append(bytes)?,
-            _ => behind.append(bytes)?,
+        match parts.len() - i {
+            1 => behind.append(bytes)?,
+            2 | 3 => outer.append(bytes)?,
+            _ => tbs.append(bytes)?,
         }
     }
     let mut content = sequence(alloc, tbs.as_slice())?;
@@ -125,124 +151,115 @@ fn spelled(alloc: Global, place: usize, other: &[u8]) -> Result<Bytes, sz_base::
     Ok(whole)
 }
 
-const OTHER_PARTS: [(usize, &[u8]); 6] = [
-    (1, b"\x02\x01\x00"),
-    (1, b"\x02\x02\xFF\x7F"),
-    (4, b"\x30\x20\x17\x0D200101000000Z\x18\x0F20400101000000Z"),
+// Whether a certificate is that of an authority, its path length, its key usage and its key identifier.
+type Restrictions = (bool, Option<u32>, Option<u16>, Option<&'static [u8]>);
+
+// A part in place of the one there, and what the certificate is restricted to.
+const OTHER_PARTS: [(usize, &[u8], Restrictions); 20] = [
+    (1, b"\x02\x01\x00", (false, None, None, None)),
+    (1, b"\x02\x02\xFF\x7F", (false, None, None, None)),
+    (
+        4,
+        b"\x30\x20\x17\x0D200101000000Z\x18\x0F20400101000000Z",
+        (false, None, None, None),
+    ),
     (
         6,
         b"\x30\x50\x30\x0D\x06\x0B\x2A\x86\x48\x86\xF7\x0D\x01\x09\x10\x03\x11\x03\x3F\x00\x04\x3C\
             abcdefghijklmnopqrstuvwxyz0123456789ABCDEFGHIJKLMNOPQRSTUVWX",
+        (false, None, None, None),
     ),
-    (7, b"\x81\x02\x00\x01\x82\x02\x00\x02"),
-    (7, b"\x82\x02\x00\x02"),
+    (
+        7,
+        b"\x81\x02\x00\x01\x82\x02\x00\x02",
+        (false, None, None, None),
+    ),
+    (7, b"\x82\x02\x00\x02", (false, None, None, None)),
+    (8, b"\xA3\x02\x30\x00", (false, None, None, None)),
+    (
+        8,
+        b"\xA3\x0D\x30\x0B\x30\x09\x06\x03\x55\x1D\x13\x04\x02\x30\x00",
+        (false, None, None, None),
+    ),
+    (
+        8,
+        b"\xA3\x13\x30\x11\x30\x0F\x06\x03\x55\x1D\x13\x01\x01\xFF\x04\x05\x30\x03\x01\x01\xFF",
+        (true, None, None, None),
+    ),
+    (
+        8,
+        b"\xA3\x13\x30\x11\x30\x0F\x06\x03\x55\x1D\x13\x01\x01\x00\x04\x05\x30\x03\x01\x01\x00",
+        (false, None, None, None),
+    ),
+    (
+        8,
+        b"\xA3\x13\x30\x11\x30\x0F\x06\x03\x55\x1D\x13\x04\x08\x30\x06\x01\x01\xFF\x02\x01\x00",
+        (true, Some(0), None, None),
+    ),
+    (
+        8,
+        b"\xA3\x14\x30\x12\x30\x10\x06\x03\x55\x1D\x13\x04\x09\x30\x07\x02\x05\x00\xFF\xFF\xFF\xFF",
+        (false, Some(u32::MAX), None, None),
+    ),
+    (
+        8,
+        b"\xA3\x0F\x30\x0D\x30\x0B\x06\x03\x55\x1D\x0F\x04\x04\x03\x02\x07\x80",
+        (false, None, Some(1), None),
+    ),
+    (
+        8,
+        b"\xA3\x0F\x30\x0D\x30\x0B\x06\x03\x55\x1D\x0F\x04\x04\x03\x02\x01\x06",
+        (false, None, Some(96), None),
+    ),
+    (
+        8,
+        b"\xA3\x10\x30\x0E\x30\x0C\x06\x03\x55\x1D\x0F\x04\x05\x03\x03\x07\x00\x80",
+        (false, None, Some(256), None),
+    ),
+    (
+        8,
+        b"\xA3\x10\x30\x0E\x30\x0C\x06\x03\x55\x1D\x23\x01\x01\xFF\x04\x02\xFF\xFF",
+        (false, None, None, None),
+    ),
+    (
+        8,
+        b"\xA3\x0E\x30\x0C\x30\x0A\x06\x03\x55\x1D\x25\x01\x01\xFF\x04\x00",
+        (false, None, None, None),
+    ),
+    (
+        8,
+        b"\xA3\x1A\x30\x18\x30\x0A\x06\x03\x55\x1D\x11\x01\x01\xFF\x04\x00\
+            \x30\x0A\x06\x03\x55\x1D\x20\x01\x01\xFF\x04\x00",
+        (false, None, None, None),
+    ),
+    (
+        8,
+        b"\xA3\x16\x30\x14\x30\x08\x06\x03\x2A\x03\x04\x04\x01\x00\x30\x08\x06\x03\x2A\x03\x05\x04\x01\x00",
+        (false, None, None, None),
+    ),
+    (
+        8,
+        b"\xA3\x0F\x30\x0D\x30\x0B\x06\x03\x55\x1D\x0E\x04\x04\x04\x02id",
+        (false, None, None, Some(b"id")),
+    ),
 ];
 
 #[test]
 fn parts_of_other_forms(rt: HostRuntime) -> Result<(), Fail> {
-    for (place, other) in OTHER_PARTS {
-        let bytes = spelled(rt.alloc(), place, other)?;
+    for (place, other, restrictions) in OTHER_PARTS {
+        let bytes = spelled(rt.alloc(), &PARTS, place, other)?;
         let cert = Cert::read(bytes.as_slice())?;
-        assert_eq!(rt; cert.not_after, DAY_1_OF_2040, "{other:?}");
-        assert_eq!(rt; cert.key, KEY, "{other:?}");
+        assert_eq!(rt;
+            (cert.not_after, cert.key),
+            (DAY_1_OF_2040, KEY),
+            "{other:?}"
+        );
+        assert_eq!(rt;
+            (cert.ca, cert.path_len, cert.usage, cert.key_id),
+            restrictions,
+            "{other:?}"
+        );
     }
-    Ok(())
-}
-
-// The field of extensions, whether that is of an authority, its path length and its key usage.
-const EXTENSIONS: [(&[u8], bool, Option<u32>, Option<u16>); 13] = [
-    (b"\xA3\x02\x30\x00", false, None, None),
-    (
-        b"\xA3\x0D\x30\x0B\x30\x09\x06\x03\x55\x1D\x13\x04\x02\x30\x00",
-        false,
-        None,
-        None,
-    ),
-    (
-        b"\xA3\x13\x30\x11\x30\x0F\x06\x03\x55\x1D\x13\x01\x01\xFF\x04\x05\x30\x03\x01\x01\xFF",
-        true,
-        None,
-        None,
-    ),
-    (
-        b"\xA3\x13\x30\x11\x30\x0F\x06\x03\x55\x1D\x13\x01\x01\x00\x04\x05\x30\x03\x01\x01\x00",
-        false,
-        None,
-        None,
-    ),
-    (
-        b"\xA3\x13\x30\x11\x30\x0F\x06\x03\x55\x1D\x13\x04\x08\x30\x06\x01\x01\xFF\x02\x01\x00",
-        true,
-        Some(0),
-        None,
-    ),
-    (
-        b"\xA3\x14\x30\x12\x30\x10\x06\x03\x55\x1D\x13\x04\x09\x30\x07\x02\x05\x00\xFF\xFF\xFF\xFF",
-        false,
-        Some(u32::MAX),
-        None,
-    ),
-    (
-        b"\xA3\x0F\x30\x0D\x30\x0B\x06\x03\x55\x1D\x0F\x04\x04\x03\x02\x07\x80",
-        false,
-        None,
-        Some(1),
-    ),
-    (
-        b"\xA3\x0F\x30\x0D\x30\x0B\x06\x03\x55\x1D\x0F\x04\x04\x03\x02\x01\x06",
-        false,
-        None,
-        Some(96),
-    ),
-    (
-        b"\xA3\x10\x30\x0E\x30\x0C\x06\x03\x55\x1D\x0F\x04\x05\x03\x03\x07\x00\x80",
-        false,
-        None,
-        Some(256),
-    ),
-    (
-        b"\xA3\x10\x30\x0E\x30\x0C\x06\x03\x55\x1D\x23\x01\x01\xFF\x04\x02\xFF\xFF",
-        false,
-        None,
-        None,
-    ),
-    (
-        b"\xA3\x0E\x30\x0C\x30\x0A\x06\x03\x55\x1D\x25\x01\x01\xFF\x04\x00",
-        false,
-        None,
-        None,
-    ),
-    (
-        b"\xA3\x1A\x30\x18\x30\x0A\x06\x03\x55\x1D\x11\x01\x01\xFF\x04\x00\
-            \x30\x0A\x06\x03\x55\x1D\x20\x01\x01\xFF\x04\x00",
-        false,
-        None,
-        None,
-    ),
-    (
-        b"\xA3\x16\x30\x14\x30\x08\x06\x03\x2A\x03\x04\x04\x01\x00\x30\x08\x06\x03\x2A\x03\x05\x04\x01\x00",
-        false,
-        None,
-        None,
-    ),
-];
-
-#[test]
-fn extensions_one_by_one(rt: HostRuntime) -> Result<(), Fail> {
-    for (field, ca, path_len, usage) in EXTENSIONS {
-        let bytes = spelled(rt.alloc(), 8, field)?;
-        let cert = Cert::read(bytes.as_slice())?;
-        assert_eq!(rt; cert.ca, ca, "{field:?}");
-        assert_eq!(rt; cert.path_len, path_len, "{field:?}");
-        assert_eq!(rt; cert.usage, usage, "{field:?}");
-    }
-    let bytes = spelled(
-        rt.alloc(),
-        8,
-        b"\xA3\x0F\x30\x0D\x30\x0B\x06\x03\x55\x1D\x0E\x04\x04\x04\x02id",
-    )?;
-    let cert = Cert::read(bytes.as_slice())?;
-    assert_eq!(rt; cert.key_id, Some(b"id".as_slice()));
     Ok(())
 }
 
@@ -376,7 +393,7 @@ const FAULTS: [(usize, &[u8], CertKind, usize); 37] = [
 #[test]
 fn each_fault_at_its_place(rt: HostRuntime) -> Result<(), Fail> {
     for (part, other, kind, place) in FAULTS {
-        let bytes = spelled(rt.alloc(), part, other)?;
+        let bytes = spelled(rt.alloc(), &PARTS, part, other)?;
         assert_eq!(rt;
             Cert::read(bytes.as_slice()).err(),
             Some(CertFault { kind, place }),

@@ -1,10 +1,9 @@
 //! A revocation list spelled by hand, what its parts may be, and each fault at its place.
 
-use super::sequence;
+use super::{part, spelled};
 use crate::{CertFault, CertKind, Crl};
-use std::alloc::Global;
 use std::test::Fail;
-use sz_base::{Bytes, Seconds};
+use sz_base::Seconds;
 
 // The parts of TBSCertList one after another, the algorithm, the signature, and what stands behind the list.
 const PARTS: [&[u8]; 10] = [
@@ -14,69 +13,61 @@ const PARTS: [&[u8]; 10] = [
     b"\x17\x0D200101000000Z",
     b"\x17\x0D400101000000Z",
     b"\x30\x3A\x30\x12\x02\x01\x07\x17\x0D210101000000Z\
-        \x30\x24\x02\x02\x00\x80\x17\x0D220101000000Z\x30\x0F\x30\x0D\x06\x03\x55\x1D\x15\x01\x01\x00\x04\x03\x0A\x01\x01",
+        \x30\x24\x02\x02\x00\x80\x17\x0D220101000000Z\
+        \x30\x0F\x30\x0D\x06\x03\x55\x1D\x15\x01\x01\x00\x04\x03\x0A\x01\x01",
     b"\xA0\x0E\x30\x0C\x30\x0A\x06\x03\x55\x1D\x14\x04\x03\x02\x01\x09",
     b"\x30\x0D\x06\x0B\x2A\x86\x48\x86\xF7\x0D\x01\x09\x10\x03\x11",
     b"\x03\x04\x00sig",
     b"",
 ];
 
-// The list of these parts, where the part at the place is another one.
-fn spelled(alloc: Global, place: usize, other: &[u8]) -> Result<Bytes, sz_base::OutOfMemory> {
-    let mut tbs = Bytes::create(alloc);
-    let mut outer = Bytes::create(alloc);
-    let mut behind = Bytes::create(alloc);
-    for (i, part) in PARTS.iter().enumerate() {
-        let bytes = if i == place { other } else { *part };
-        match i {
-            0..=6 => tbs.append(bytes)?,
-            7 | 8 => outer.append(bytes)?,
-            _ => behind.append(bytes)?,
-        }
-    }
-    let mut content = sequence(alloc, tbs.as_slice())?;
-    content.append(outer.as_slice())?;
-    let mut whole = sequence(alloc, content.as_slice())?;
-    whole.append(behind.as_slice())?;
-    Ok(whole)
-}
-
 #[test]
 fn one_spelled_by_hand(rt: HostRuntime) -> Result<(), Fail> {
-    let bytes = spelled(rt.alloc(), 9, b"")?;
-    let list = Crl::read(bytes.as_slice())?;
-    assert_eq!(rt; list.whole, bytes.as_slice());
-    assert_eq!(rt; Some(list.tbs), bytes.as_slice().get(3..144));
-    assert_eq!(rt; list.issuer, PARTS[2]);
-    assert_eq!(rt; list.this_update, Seconds(1_577_836_800));
-    assert_eq!(rt; list.next_update, Some(Seconds(2_208_988_800)));
-    assert_eq!(rt; list.signature, b"sig".as_slice());
-    assert!(rt; list.lists(b"\x07"));
-    assert!(rt; list.lists(b"\x00\x80"));
-    assert!(rt; !list.lists(b"\x80"));
-    assert!(rt; !list.lists(b""));
+    let bytes = spelled(rt.alloc(), &PARTS, 9, b"")?;
+    let bytes = bytes.as_slice();
+    let list = Crl::read(bytes)?;
+    assert_eq!(rt;
+        list,
+        Crl {
+            whole: bytes,
+            tbs: part(bytes, 3, 144),
+            issuer: PARTS[2],
+            this_update: Seconds(1_577_836_800),
+            next_update: Some(Seconds(2_208_988_800)),
+            entries: part(PARTS[5], 2, 60),
+            signature: b"sig",
+        }
+    );
+    for (serial, listed) in [
+        (&b"\x07"[..], true),
+        (b"\x00\x80", true),
+        (b"\x80", false),
+        (b"", false),
+    ] {
+        assert_eq!(rt; list.lists(serial), listed, "{serial:?}");
+    }
     Ok(())
 }
 
-const OTHER_PARTS: [(usize, &[u8]); 5] = [
-    (0, b""),
-    (4, b""),
-    (4, b"\x18\x0F20500101000000Z"),
-    (5, b"\x30\x00"),
-    (6, b""),
+// A part in place of the one there, whether nextUpdate is there, and whether serial number 7 is listed.
+const OTHER_PARTS: [(usize, &[u8], bool, bool); 5] = [
+    (0, b"", true, true),
+    (4, b"", false, true),
+    (4, b"\x18\x0F20500101000000Z", true, true),
+    (5, b"\x30\x00", true, false),
+    (6, b"", true, true),
 ];
 
 #[test]
 fn parts_of_other_forms(rt: HostRuntime) -> Result<(), Fail> {
-    for (place, other) in OTHER_PARTS {
-        let bytes = spelled(rt.alloc(), place, other)?;
+    for (place, other, next_update, listed) in OTHER_PARTS {
+        let bytes = spelled(rt.alloc(), &PARTS, place, other)?;
         let list = Crl::read(bytes.as_slice())?;
         assert_eq!(rt;
-            list.next_update.is_none(),
-            other.is_empty() && place == 4,
+            (list.next_update.is_some(), list.lists(b"\x07")),
+            (next_update, listed),
             "{other:?}"
         );
-        assert_eq!(rt; list.lists(b"\x07"), place != 5, "{other:?}");
     }
     Ok(())
 }
@@ -123,7 +114,7 @@ const FAULTS: [(usize, &[u8], CertKind, usize); 14] = [
 #[test]
 fn each_fault_at_its_place(rt: HostRuntime) -> Result<(), Fail> {
     for (part, other, kind, place) in FAULTS {
-        let bytes = spelled(rt.alloc(), part, other)?;
+        let bytes = spelled(rt.alloc(), &PARTS, part, other)?;
         assert_eq!(rt;
             Crl::read(bytes.as_slice()).err(),
             Some(CertFault { kind, place }),

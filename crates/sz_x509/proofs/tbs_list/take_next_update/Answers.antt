@@ -33,7 +33,8 @@ returns-clause-ok c =
 
 pub returns-clause-seconds : goal.returns-clause-seconds
 returns-clause-seconds c =
-    ap (λ (x : ℤ). Some x) c.in_ok-seconds.ensures.seconds ∙ sym (next_time (spot_of c.args.reader.now) (sym c.is_time_next.ensures ∙ c.if-not-is_time_next.false))
+    let next = sym c.is_time_next.ensures ∙ c.if-not-is_time_next.false in
+    ap (λ (x : ℤ). Some x) c.in_ok-seconds.ensures.seconds ∙ sym (next_time (spot_of c.args.reader.now) next)
 
 pub returns-clause-next : goal.returns-clause-next
 returns-clause-next c =
