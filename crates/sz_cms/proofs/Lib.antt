@@ -1,10 +1,17 @@
+pub mod Answered
+pub mod AttributeLaws
 pub mod Contents
 pub mod Joined
 pub mod Lists
 pub mod Optional
 pub mod Readings
+pub mod SignedParts
 pub mod SignerLaws
+pub mod SignerWhole
+pub mod SpelledSequences
 pub mod Spots
 pub mod Steps
+pub mod Types
 pub mod Walk
+pub mod Whole
 pub mod WrittenParts

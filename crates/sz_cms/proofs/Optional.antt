@@ -1,5 +1,5 @@
 -- Items that need not be there.
-use Rattle.std.proofs.Common.{◌≡◌, ℕ, true, false, List, [], ◌++◌, None, refl, sym, subst, ◌∙◌}
+use Rattle.std.proofs.Common.{◌≡◌, ℕ, true, false, List, [], ◌++◌, Option, None, refl, sym, subst, ◌∙◌}
 use Rattle.std.proofs.lemmas.Bool.{and_right, and_parts, and_from, eqb-true, eq-eqb, ne_eqb, not_from_false}
 use Rattle.sz_der.specs.Der.{AreOctets, Der}
 use Rattle.sz_cms.specs.Parts.{after, after_optional, is_at_end, is_next, no_item, Spot, tag_at, whole_at}
@@ -58,3 +58,9 @@ present spot tag IsPiece here next is =
 
 pub found_next : (tag : ℕ) (spot : Spot) → AreOctets spot.left → is_next tag spot ≡ true → no_item kinds.Der spot ≡ None → Found spot tag
 found_next tag spot fits next n = subst (λ (t : ℕ). Found spot t) (next_tag tag spot next) (found kinds.Der spot fits n)
+
+-- a field where an item with this tag may stand has no fault, and is what is kept of it
+pub record FieldClear {A F : Type 0} (fault : Option F) (at value : A) (spot : Spot) (tag : ℕ) (rest : List ℕ) : Type 0 where
+  pub no_fault : fault ≡ None
+  pub value_is : at ≡ value
+  pub after_is : (after_optional tag spot).left ≡ rest

@@ -213,7 +213,7 @@ many_signers signers earlier same full is all_full =
 -- ---- certificates and revocation lists
 
 -- the first byte of an item is its tag
-begins : (spot : Spot) → get_or (whole_at spot) 0 0 ≡ tag_at spot
+pub begins : (spot : Spot) → get_or (whole_at spot) 0 0 ≡ tag_at spot
 unfolding whole_at tag_at
 begins spot = get_or-take (size_at spot) spot.left 0 0 (omega arith)
 
@@ -280,7 +280,7 @@ pub choice_other : (most : ℕ) (earlier : List Spot) (spot : Spot) → some_ite
 unfolding choice_fault is_sequence
 choice_other most earlier spot item other = rw (item, ne_eqb (tag_at spot) SEQUENCE other) refl
 
-sequence_is : (spot : Spot) → tag_at spot ≡ SEQUENCE → is_sequence spot ≡ true
+pub sequence_is : (spot : Spot) → tag_at spot ≡ SEQUENCE → is_sequence spot ≡ true
 unfolding is_sequence
 sequence_is spot is = eq-eqb (tag_at spot) SEQUENCE is
 

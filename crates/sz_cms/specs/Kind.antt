@@ -23,6 +23,11 @@ abbrev pub IsKindOf : Kind → List ℕ → Type 0
 IsKindOf (kind.Other other) identifier = (other.now ≡ identifier) × (list_any (bytes_eq identifier) named ≡ false)
 IsKindOf kind identifier = identifier_of kind ≡ identifier
 
+-- a type that has a name
+abbrev pub HasName : Kind → Type 0
+HasName (kind.Other identifier) = ⊥
+HasName _ = ⊤
+
 -- a type that messages are written of: its content is not encrypted, and it has a name
 abbrev pub IsWritten : Kind → Type 0
 IsWritten kind.Enveloped = ⊥

@@ -1,7 +1,7 @@
 -- What contracts see of a message that was read: the values of its slices.
-use Rattle.std.specs.Prelude.{ℕ, List, ◌∷◌, map, Option, Some, None}
+use Rattle.std.specs.Prelude.{◌≡◌, ℕ, List, ◌∷◌, map, Option, Some, None}
 use Rattle.std.specs.Option.{option_copied}
-use Rattle.sz_cms.specs.Kind.{identifier_of, IsKindOf}
+use Rattle.sz_cms.specs.Kind.{HasName, identifier_of, IsKindOf}
 use Rattle.sz_cms.specs.Message as message
 use Rattle.sz_cms.specs.MessageFault.{Fault}
 use Rattle.sz_cms.specs.declared.fault.InfoFault.{InfoFault}
@@ -52,6 +52,11 @@ info_of (info.Signed signed) = message.SignedData (signed_of signed)
 -- a type of content that has a name is seen by its name
 abbrev pub IsNamed : Kind → Type 0
 IsNamed kind = IsKindOf kind (identifier_of kind)
+
+-- a type with the identifier of one that has a name is that type
+abbrev pub KindsAreApart : Type 0
+KindsAreApart =
+    (kind other : Kind) → HasName kind → IsNamed other → identifier_of other ≡ identifier_of kind → other ≡ kind
 
 abbrev pub kind_of : Info → Kind
 kind_of (info.Plain kind content) = kind

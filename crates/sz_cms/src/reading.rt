@@ -1,8 +1,9 @@
 //! The reader of a message and of signed data.
 
-ghost use Rattle.std.specs.Prelude.{◌≡◌, ◌<◌, None, Some, OnOk, IfErr, IfOk, map};
+ghost use Rattle.std.specs.Prelude.{◌≡◌, ◌<◌, None, Some, OnOk, IfErr, IfOk, IsOkAnd, map};
 ghost use Rattle.std.specs.Option.{option_copied};
 ghost use Rattle.sz_der.specs.declared.tag.TheConstants.{CONTEXT_CONSTRUCTED};
+ghost use Rattle.sz_cms.specs.Message.{Info as Message, InfoOf};
 ghost use Rattle.sz_cms.specs.MessageFault.{algorithm_fault, algorithms_fault, choice_fault, choices_fault, content_fault, content_field_fault, each_from, info_fault, inner_fault, octets_fault, sequences_at, signed_fault, signed_parts_fault, signer_fault, signers_fault};
 ghost use Rattle.sz_cms.specs.Parts.{after, after_optional, content_at, inside, spot_of, spots_from};
 ghost use Rattle.sz_cms.specs.Places.{choices_at, content_field_at, info_at, inner_at, signed_from, signer_at, signers_at};
@@ -19,22 +20,37 @@ use sz_der::DerReader;
 use sz_der::tag::{CONTEXT_CONSTRUCTED, OBJECT_IDENTIFIER, OCTET_STRING, SEQUENCE, SET};
 
 impl<'a> Info<'a> {
-    /// Reads a message. Its fields are slices of the bytes, and no memory is taken.
+    /// The message that the bytes are, from the first to the last of them. Its fields are slices of the bytes, and no
+    /// memory is taken. A fault is that of the first item in the order of the bytes at which no message continues, with
+    /// the place of its tag.
     pub fn read(bytes: &'a [u8]) -> Result<Self, InfoFault>
-        ensures ok { OnOk result (info_fault bytes.entry.now ≡ None) }
-        ensures info { IfOk result (λ info. info_of info ≡ info_at bytes.entry.now) }
+        ensures ok { IfOk result (λ info. InfoOf bytes.entry.now (info_of info)) }
+        ensures only { (info : Message) → InfoOf bytes.entry.now info
+            → IsOkAnd result (λ found. info_of found ≡ info) }
+        ensures places { IfOk result (λ info. info_of info ≡ info_at bytes.entry.now) }
         ensures named { IfOk result (λ info. IsNamed (kind_of info)) }
+        ensures no_fault { OnOk result (info_fault bytes.entry.now ≡ None) }
         ensures fault { IfErr result (λ fault. info_fault bytes.entry.now ≡ Some (at fault)) }
     {
-        let mut whole = DerReader::over(bytes);
-        let mut parts = open_part(&mut whole, SEQUENCE)?;
-        let identifier = take_part(&mut parts, OBJECT_IDENTIFIER)?;
-        let content = open_part(&mut parts, CONTEXT_CONSTRUCTED)?;
-        let info = read_inner(identifier.content, &content)?;
-        expect_end(&parts, InfoKind::Shape)?;
-        expect_end(&whole, InfoKind::Shape)?;
-        Ok(info)
+        read_message(bytes)
     }
+}
+
+// Reads each part at its place.
+fn read_message<'a>(bytes: &'a [u8]) -> Result<Info<'a>, InfoFault>
+    ensures ok { OnOk result (info_fault bytes.entry.now ≡ None) }
+    ensures info { IfOk result (λ info. info_of info ≡ info_at bytes.entry.now) }
+    ensures named { IfOk result (λ info. IsNamed (kind_of info)) }
+    ensures fault { IfErr result (λ fault. info_fault bytes.entry.now ≡ Some (at fault)) }
+{
+    let mut whole = DerReader::over(bytes);
+    let mut parts = open_part(&mut whole, SEQUENCE)?;
+    let identifier = take_part(&mut parts, OBJECT_IDENTIFIER)?;
+    let content = open_part(&mut parts, CONTEXT_CONSTRUCTED)?;
+    let info = read_inner(identifier.content, &content)?;
+    expect_end(&parts, InfoKind::Shape)?;
+    expect_end(&whole, InfoKind::Shape)?;
+    Ok(info)
 }
 
 // Reads the content of a message, by the octets of its type.

@@ -1,10 +1,17 @@
-//! Messages by hand: plain and signed ones, each kind of fault at its place, limits, and attributes.
+//! Messages by hand and of other software, each kind of content, each kind of fault at its place, limits, attributes,
+//! and what is written.
+
+mod vectors;
+
+ghost use Rattle.std.specs.Prelude.{◌≡◌, [], ◌∷◌, IfOk};
 
 use super::*;
 use std::alloc::Global;
 use std::test::Fail;
-use sz_base::{Bytes, Certs, OutOfMemory};
+use sz_base::{Bytes, Certs, OutOfMemory, base64_bytes};
 use sz_der::DerWriter;
+use sz_der::tag::{CONTEXT_CONSTRUCTED, OBJECT_IDENTIFIER, SEQUENCE};
+use vectors::{KEY_IDENTIFIER, OWNER, UNSIGNED, WITHOUT_ATTRIBUTES, XML};
 
 // Where a message is at fault.
 fn fault_of(bytes: &[u8]) -> Option<InfoFault> {
@@ -18,38 +25,155 @@ fn signed_of<'a>(bytes: &'a [u8]) -> Option<Signed<'a>> {
     }
 }
 
-const DATA_MESSAGE: &[u8] =
-    b"\x30\x10\x06\x09\x2A\x86\x48\x86\xF7\x0D\x01\x07\x01\xA0\x03\x04\x01a";
+fn plain_of<'a>(bytes: &'a [u8]) -> Option<(Kind<'a>, &'a [u8])> {
+    match Info::read(bytes) {
+        Ok(Info::Plain { kind, content }) => Some((kind, content)),
+        _ => None,
+    }
+}
 
-// Enveloped data as another implementation writes it.
-const ENVELOPED: &[u8] =
-    b"\x30\x14\x06\x09\x2A\x86\x48\x86\xF7\x0D\x01\x07\x03\xA0\x07\x30\x05\x02\x01\x00\x31\x00";
+// The name of a type.
+fn name_of(kind: Kind<'_>) -> &'static str {
+    match kind {
+        Kind::Data => "data",
+        Kind::Voucher => "voucher",
+        Kind::ConveyedJson => "json",
+        Kind::ConveyedXml => "xml",
+        Kind::Enveloped => "enveloped",
+        Kind::Other(_) => "other",
+    }
+}
+
+// The content of an item, as an item.
+fn sequence(alloc: Global, content: &[u8]) -> Result<Bytes, OutOfMemory> {
+    let mut writer = DerWriter::create(alloc)?;
+    writer.item(SEQUENCE, content)?;
+    Ok(writer.finish())
+}
+
+// A message of the type with this identifier, that holds these items.
+fn plain(alloc: Global, identifier: &[u8], inner: &[u8]) -> Result<Bytes, OutOfMemory> {
+    let mut info = DerWriter::create(alloc)?;
+    info.item(OBJECT_IDENTIFIER, identifier)?;
+    info.item(CONTEXT_CONSTRUCTED, inner)?;
+    sequence(alloc, info.as_slice())
+}
+
+// The octets of identifiers, the types that have them, what a message holds, and its content.
+const KINDS: [(&[u8], Kind<'static>, &[u8], &[u8]); 6] = [
+    (
+        b"\x2A\x86\x48\x86\xF7\x0D\x01\x07\x01",
+        Kind::Data,
+        b"\x04\x01a",
+        b"a",
+    ),
+    (
+        b"\x2A\x86\x48\x86\xF7\x0D\x01\x09\x10\x01\x28",
+        Kind::Voucher,
+        b"\x04\x01a",
+        b"a",
+    ),
+    (
+        b"\x2A\x86\x48\x86\xF7\x0D\x01\x09\x10\x01\x2B",
+        Kind::ConveyedJson,
+        b"\x04\x01a",
+        b"a",
+    ),
+    (
+        b"\x2A\x86\x48\x86\xF7\x0D\x01\x09\x10\x01\x2A",
+        Kind::ConveyedXml,
+        b"\x04\x01a",
+        b"a",
+    ),
+    (
+        b"\x2A\x86\x48\x86\xF7\x0D\x01\x07\x03",
+        Kind::Enveloped,
+        b"\x30\x05\x02\x01\x00\x31\x00",
+        b"",
+    ),
+    (b"\x2A\x03", Kind::Other(b"\x2A\x03"), b"\x04\x01a", b"a"),
+];
 
 #[test]
-fn plain_messages(rt: HostRuntime) -> Result<(), Fail> {
-    let written = write_plain(rt.alloc(), Kind::Data, b"a")?;
-    assert_eq!(rt; written.as_slice(), DATA_MESSAGE);
-    match Info::read(DATA_MESSAGE)? {
-        Info::Plain { kind, content } => {
-            assert_eq!(rt; kind.identifier(), identifier::DATA.as_slice());
-            assert_eq!(rt; content, b"a".as_slice());
-        }
-        Info::Signed(_) => return Err("signed".into()),
+fn each_kind_by_its_name(rt: HostRuntime) -> Result<(), Fail> {
+    let alloc = rt.alloc();
+    for (identifier, named, inner, expected) in KINDS {
+        let bytes = plain(alloc, identifier, inner)?;
+        let (kind, content) = plain_of(bytes.as_slice()).ok_or("not plain")?;
+        assert_eq!(rt; name_of(kind), name_of(named));
+        assert_eq!(rt; kind.identifier(), identifier);
+        assert_eq!(rt; content, expected, "{kind:?}");
     }
-    match Info::read(ENVELOPED)? {
-        Info::Plain {
-            kind: Kind::Enveloped,
-            content,
-        } => assert_eq!(rt; content, b"".as_slice()),
-        _ => return Err("not enveloped".into()),
-    }
+    let written = write_plain(alloc, Kind::Data, b"a")?;
+    assert_eq!(rt;
+        written.as_slice(),
+        b"\x30\x10\x06\x09\x2A\x86\x48\x86\xF7\x0D\x01\x07\x01\xA0\x03\x04\x01a".as_slice()
+    );
     Ok(())
 }
 
-// Messages of id-data, and the place of their first fault.
-const FAULTS: [(&[u8], InfoKind, usize); 9] = [
+const OWNER_ROOT: &[u8] = b"\x30\x15\x31\x13\x30\x11\x06\x03\x55\x04\x03\x0C\x0AOwner Root";
+
+const KEY_ID: &[u8] =
+    b"\xA7\xFE\xAB\x04\xEE\x26\xBE\x0E\xCA\x03\xAF\x74\x16\xE3\x45\x6F\x2B\x93\xE4\x73";
+
+// The content of each, in JSON.
+const CONVEYED: &[u8] = b"{\"ietf-sztp-conveyed-info:onboarding-information\":\
+    {\"configuration\":\"aG9zdG5hbWUgYTEK\",\"configuration-handling\":\"replace\"}}";
+
+// Signed messages of other software: the type, what their signer is known by, and whether it has signed attributes.
+const SIGNED_BY_OTHERS: [(&str, &str, &[u8], &[u8], bool); 3] = [
+    (KEY_IDENTIFIER, "json", KEY_ID, b"", true),
+    (WITHOUT_ATTRIBUTES, "data", OWNER_ROOT, b"\x0B", false),
+    (XML, "xml", OWNER_ROOT, b"\x0A", true),
+];
+
+// What a signer is known by: its key identifier, or the issuer and the serial number of its certificate.
+fn known_by<'a>(identifier: Identifier<'a>) -> (&'a [u8], &'a [u8]) {
+    match identifier {
+        Identifier::KeyId(octets) => (octets, b""),
+        Identifier::IssuerSerial { issuer, serial } => (issuer, serial),
+    }
+}
+
+#[test]
+fn messages_of_other_software(rt: HostRuntime) -> Result<(), Fail> {
+    let alloc = rt.alloc();
+    for (text, name, issuer, serial, has_attributes) in SIGNED_BY_OTHERS {
+        let bytes = base64_bytes(alloc, text.as_bytes())?;
+        let signed = signed_of(bytes.as_slice()).ok_or("not signed")?;
+        assert_eq!(rt; name_of(signed.kind), name);
+        assert_eq!(rt; signed.content, Some(CONVEYED));
+        let [signer] = signed.signers.as_slice() else {
+            return Err("not one signer".into());
+        };
+        let (known, number) = known_by(signer.identifier);
+        assert_eq!(rt; known, issuer);
+        assert_eq!(rt; number, serial);
+        assert_eq!(rt; signer.attributes.is_some(), has_attributes);
+        assert_eq!(rt; signer.signature.len(), 1296);
+        assert!(rt; signer.digest_fits(signed.kind, CONVEYED));
+        assert_eq!(rt; signer.digest_fits(signed.kind, b""), !has_attributes);
+    }
+    let bytes = base64_bytes(alloc, UNSIGNED.as_bytes())?;
+    let (kind, content) = plain_of(bytes.as_slice()).ok_or("not plain")?;
+    assert_eq!(rt; name_of(kind), "json");
+    assert_eq!(rt; content, CONVEYED);
+    let bytes = base64_bytes(alloc, OWNER.as_bytes())?;
+    let alone = signed_of(bytes.as_slice()).ok_or("not signed")?;
+    assert_eq!(rt; alone.content, None);
+    assert_eq!(rt; alone.signers.len(), 0);
+    let [cert] = alone.certs.as_slice() else {
+        return Err("not one certificate".into());
+    };
+    assert_eq!(rt; Some(*cert), bytes.as_slice().get(45..1619));
+    Ok(())
+}
+
+// Messages of id-data and of signed data, and the place of their first fault.
+const FAULTS: [(&[u8], InfoKind, usize); 10] = [
     (b"", InfoKind::Der, 0),
-    (b"\x00\x00\x00\x00", InfoKind::Shape, 0),
+    (&[0; 16], InfoKind::Shape, 0),
     (
         b"\x30\x0B\x06\x09\x2A\x86\x48\x86\xF7\x0D\x01\x07\x01",
         InfoKind::Der,
@@ -84,6 +208,12 @@ const FAULTS: [(&[u8], InfoKind, usize); 9] = [
         b"\x30\x10\x06\x09\x2A\x86\x48\x86\xF7\x0D\x01\x07\x01\xA0\x03\x04\x01a\x05",
         InfoKind::Der,
         18,
+    ),
+    // A version in more octets than it needs.
+    (
+        b"\x30\x13\x06\x09\x2A\x86\x48\x86\xF7\x0D\x01\x07\x02\xA0\x06\x30\x04\x02\x02\x00\x01",
+        InfoKind::Der,
+        17,
     ),
 ];
 
@@ -120,9 +250,7 @@ fn signer(alloc: Global, attributes: Option<&[u8]>, unsigned: &[u8]) -> Result<B
     if !unsigned.is_empty() {
         parts.item(0xA1, unsigned)?;
     }
-    let mut signer = DerWriter::create(alloc)?;
-    signer.item(0x30, parts.as_slice())?;
-    Ok(signer.finish())
+    sequence(alloc, parts.as_slice())
 }
 
 // Signed data of id-data without content, with these certificates, revocation lists and signers.
@@ -138,14 +266,8 @@ fn message(alloc: Global, certs: &[u8], crls: &[u8], signers: &[u8]) -> Result<B
         parts.item(0xA1, crls)?;
     }
     parts.item(0x31, signers)?;
-    let mut data = DerWriter::create(alloc)?;
-    data.item(0x30, parts.as_slice())?;
-    let mut info = DerWriter::create(alloc)?;
-    info.item(0x06, identifier::SIGNED_DATA.as_slice())?;
-    info.item(0xA0, data.as_slice())?;
-    let mut message = DerWriter::create(alloc)?;
-    message.item(0x30, info.as_slice())?;
-    Ok(message.finish())
+    let data = sequence(alloc, parts.as_slice())?;
+    plain(alloc, &identifier::SIGNED_DATA, data.as_slice())
 }
 
 // So many copies, one after another.
@@ -232,10 +354,27 @@ fn rules_on_attributes(rt: HostRuntime) -> Result<(), Fail> {
         });
         assert_eq!(rt; fault_of(bytes.as_slice()), expected);
     }
-    let deep = copies(alloc, b"\x30", 255)?;
+    Ok(())
+}
+
+#[test]
+fn deep_and_large_messages(rt: HostRuntime) -> Result<(), Fail> {
+    let alloc = rt.alloc();
+    let mut deep = Bytes::create(alloc);
+    for _ in 0..10_000 {
+        deep = sequence(alloc, deep.as_slice())?;
+    }
     let passed_over = signer(alloc, None, deep.as_slice())?;
     let bytes = message(alloc, b"", b"", passed_over.as_slice())?;
-    assert_eq!(rt; fault_of(bytes.as_slice()), None);
+    let read = signed_of(bytes.as_slice()).ok_or("not signed")?;
+    assert_eq!(rt; read.signers.len(), 1);
+    let mut large = Bytes::create(alloc);
+    for _ in 0..1024 {
+        large.append(&[0x30; 1024])?;
+    }
+    let bytes = write_plain(alloc, Kind::Data, large.as_slice())?;
+    let (_, content) = plain_of(bytes.as_slice()).ok_or("not plain")?;
+    assert_eq!(rt; content, large.as_slice());
     Ok(())
 }
 
@@ -259,6 +398,22 @@ const BEFORE: &[u8] =
 const BEHIND: &[u8] =
     b"\x30\x0D\x06\x0B\x2A\x86\x48\x86\xF7\x0D\x01\x09\x10\x03\x11\x04\x05\x00\x01\x02\x03\x04";
 
+// The message of the content `a`, as it is written.
+fn written(alloc: Global) -> Result<Bytes, OutOfMemory> {
+    let certs = one(alloc)?;
+    let attributes = write_attributes(alloc, Kind::Data, b"a")?;
+    write_signed(
+        alloc,
+        Kind::Data,
+        b"a",
+        &certs,
+        ISSUER,
+        b"\x05",
+        attributes.as_slice(),
+        b"\x00\x01\x02\x03\x04",
+    )
+}
+
 #[test]
 fn the_layout_of_a_signed_message(rt: HostRuntime) -> Result<(), Fail> {
     let alloc = rt.alloc();
@@ -268,6 +423,8 @@ fn the_layout_of_a_signed_message(rt: HostRuntime) -> Result<(), Fail> {
     let mut layout = Bytes::from_slice(alloc, BEFORE)?;
     layout.append(untagged)?;
     layout.append(BEHIND)?;
+    let written = written(alloc)?;
+    assert_eq!(rt; written.as_slice(), layout.as_slice());
     let read = signed_of(layout.as_slice()).ok_or("not signed")?;
     assert_eq!(rt; read.content, Some(b"a".as_slice()));
     assert_eq!(rt; read.certs.as_slice(), [ISSUER].as_slice());
@@ -283,26 +440,43 @@ fn the_layout_of_a_signed_message(rt: HostRuntime) -> Result<(), Fail> {
     Ok(())
 }
 
+// Two certificates and a revocation list, each a SEQUENCE, which nobody signs.
+const ALONE: &[u8] =
+    b"\x30\x2F\x06\x09\x2A\x86\x48\x86\xF7\x0D\x01\x07\x02\xA0\x22\x30\x20\x02\x01\x01\x31\x00\
+    \x30\x0B\x06\x09\x2A\x86\x48\x86\xF7\x0D\x01\x07\x01\xA0\x06\x30\x00\x30\x02\x05\x00\xA1\x02\x30\x00\x31\x00";
+
+// A list of one SEQUENCE without content.
+fn one(alloc: Global) -> Result<Certs, OutOfMemory>
+    ensures { IfOk result (λ certs. certs ≡ (48 ∷ 0 ∷ []) ∷ []) }
+{
+    let mut certs = Certs::create(alloc);
+    certs.push(Bytes::from_slice(alloc, b"\x30\x00")?)?;
+    Ok(certs)
+}
+
+// The same, and another SEQUENCE.
+fn two(alloc: Global) -> Result<Certs, OutOfMemory>
+    ensures { IfOk result (λ certs. certs ≡ (48 ∷ 0 ∷ []) ∷ (48 ∷ 2 ∷ 5 ∷ 0 ∷ []) ∷ []) }
+{
+    let mut certs = one(alloc)?;
+    certs.push(Bytes::from_slice(alloc, b"\x30\x02\x05\x00")?)?;
+    Ok(certs)
+}
+
+// Their message, as it is written.
+fn certs_written(alloc: Global) -> Result<Bytes, OutOfMemory> {
+    let certs = two(alloc)?;
+    let lists = one(alloc)?;
+    write_certs(alloc, &certs, &lists)
+}
+
 #[test]
-fn messages_are_written(rt: HostRuntime) -> Result<(), Fail> {
+fn the_layout_of_certificates_alone(rt: HostRuntime) -> Result<(), Fail> {
     let alloc = rt.alloc();
-    let certs = Certs::create(alloc);
-    let lists = Certs::create(alloc);
-    let alone = write_certs(alloc, &certs, &lists)?;
-    let read = signed_of(alone.as_slice()).ok_or("not signed")?;
-    assert_eq!(rt; read.certs.len(), 0);
-    let attributes = write_attributes(alloc, Kind::Data, b"a")?;
-    let written = write_signed(
-        alloc,
-        Kind::Data,
-        b"a",
-        &certs,
-        ISSUER,
-        b"\x05",
-        attributes.as_slice(),
-        b"\x00\x01\x02\x03\x04",
-    )?;
-    let read = signed_of(written.as_slice()).ok_or("not signed")?;
-    assert_eq!(rt; read.signers.len(), 1);
+    let alone = certs_written(alloc)?;
+    assert_eq!(rt; alone.as_slice(), ALONE);
+    let read = signed_of(ALONE).ok_or("not signed")?;
+    assert_eq!(rt; read.certs.len(), 2);
+    assert_eq!(rt; read.crls.as_slice(), [ISSUER].as_slice());
     Ok(())
 }
