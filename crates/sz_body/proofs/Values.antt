@@ -1,5 +1,5 @@
 -- The values of the fields of one name, field by field.
-use Rattle.std.proofs.Common.{◌≡◌, ℕ, ◌+◌, ◌<◌, ◌≤◌, true, false, List, [], ◌∷◌, ◌++◌, length, get_or, take, drop, refl, sym, ap, ◌∙◌, subst, arith, append_assoc, append-nil, take-append-drop, length-append, take_all, le_refl, Option, Some, None, IfSome, is_some, option_to_list, option_copied, All, Bor}
+use Rattle.std.proofs.Common.{◌≡◌, ℕ, ◌+◌, ◌<◌, ◌≤◌, true, false, List, [], ◌∷◌, ◌++◌, length, get_or, take, drop, refl, sym, ap, ◌∙◌, subst, arith, append_assoc, append-nil, take-append-drop, length-append, take_all, le_refl, Option, Some, None, IfSome, is_some, option_to_list, option_copied, All, Any, IsSomeAnd, Bor}
 use Rattle.std.proofs.lemmas.Bool.{false_from_ne_true}
 use Rattle.std.proofs.lemmas.List.{take_more, get_or_at}
 use Rattle.std.proofs.lemmas.List.Elements.{filter_map-append, All-push}
@@ -38,7 +38,9 @@ values_at name fields i text inside e =
     ∙ ap (λ (t : List (List ℕ)). t ++ values name (drop (i + 1) fields)) (values_more name fields i (Some text) inside e)
 
 pub values_all : (name : List ℕ) (fields : FieldList) (i : ℕ) → i ≡ length fields → values name (take i fields) ≡ values name fields
-values_all name fields i e = ap (λ (fs : FieldList). values name fs) (take_all i fields (subst (λ (n : ℕ). length fields ≤ n) (sym e) (le_refl (length fields))))
+values_all name fields i e =
+    ap (λ (fs : FieldList). values name fs)
+    (take_all i fields (subst (λ (n : ℕ). length fields ≤ n) (sym e) (le_refl (length fields))))
 
 -- ---- what a loop over the fields finds
 
@@ -83,6 +85,34 @@ each_more P name fields i None inside e all some =
 each_more P name fields i (Some text) inside e all some =
     subst (λ (t : List (List ℕ)). All P t) (sym (values_more name fields i (Some text) inside e))
     (All-push P (values name (take i fields)) text all some)
+
+-- a value that was found and has this is one of those of the name
+pub any_found : (P : List ℕ → Type 0) (name : List ℕ) (fields : FieldList) (i : ℕ) (found : Option (List ℕ)) → i < length fields
+    → found ≡ value_if name (get_or fields i ([], [])) → IsSomeAnd found P → Any P (values name fields)
+any_found P name fields i None inside e has = absurd has
+any_found P name fields i (Some text) inside e has =
+    let front = values name (take i fields) in
+    let back = values name (drop (i + 1) fields) in
+    let at = values_at name fields i text inside e ∙ append_assoc front (text ∷ []) back in (
+      length front,
+      text,
+      omega (arith, ap length at, length-append front (text ∷ back)),
+      ap (λ (t : List (List ℕ)). get_or t (length front) text) at ∙ get_or_at front text back text (length front) refl,
+      has,
+    )
+
+-- where no value of the front has this and the next one has not, none up to there has
+pub none_found : (P : List ℕ → Type 0) (name : List ℕ) (fields : FieldList) (i : ℕ) (found : Option (List ℕ)) → i < length fields
+    → found ≡ value_if name (get_or fields i ([], [])) → All (λ text. P text → ⊥) (values name (take i fields)) → (IsSomeAnd found P → ⊥)
+    → All (λ text. P text → ⊥) (values name (take (i + 1) fields))
+none_found P name fields i found inside e before none = each_more (λ text. P text → ⊥) name fields i found inside e before (other found none)
+  where
+    other : (found : Option (List ℕ)) → (IsSomeAnd found P → ⊥) → IfSome found (λ text. P text → ⊥)
+    other None none = tt
+    other (Some text) none = none
+
+pub not_any : (P : List ℕ → Type 0) (texts : List (List ℕ)) → All (λ text. P text → ⊥) texts → Any P texts → ⊥
+not_any P texts all any = subst (λ (t : List ℕ). P t → ⊥) any.3 (all any.0 any.1 any.2) any.4
 
 -- ---- one field
 

@@ -1,5 +1,5 @@
 -- How the fields of a head frame the body behind it (RFC 9112 section 6, RFC 9110 section 8.4).
-use Rattle.std.specs.Prelude.{◌≡◌, ◌≢◌, ◌⊎◌, ℕ, ◌^◌, ◌<◌, ◌≤◌, if◌then◌else◌, List, [], length, All, codes, Option, Some, None, Result, Ok, Err}
+use Rattle.std.specs.Prelude.{◌≡◌, ◌≢◌, ◌⊎◌, ℕ, ◌^◌, ◌<◌, ◌≤◌, if◌then◌else◌, List, [], length, All, Any, codes, Option, Some, None, Result, Ok, Err}
 use Rattle.std.specs.Char.{is_ascii_digit}
 use Rattle.std.specs.List.{AllPass, filter_map}
 use Rattle.std.specs.Str.{str_to_ascii_lowercase, bytes_eq}
@@ -41,6 +41,10 @@ IsSameText text value = str_to_ascii_lowercase text ≡ str_to_ascii_lowercase v
 abbrev pub EachIs : List ℕ → List ℕ → FieldList → Type 0
 EachIs name value fields = All (λ text. IsSameText text value) (values name fields)
 
+-- a field of this name has this value, in either case
+abbrev pub AnyIs : List ℕ → List ℕ → FieldList → Type 0
+AnyIs name value fields = Any (λ text. IsSameText text value) (values name fields)
+
 -- one or more decimal digits, also zeros in front, that write a number below 2^64
 pub record IsLength (text : List ℕ) (n : ℕ) : Type 0 where
   pub some : 0 < length text
@@ -48,37 +52,33 @@ pub record IsLength (text : List ℕ) (n : ℕ) : Type 0 where
   pub value : n ≡ digits_value 10 text
   pub below : n < 2 ^ 64
 
--- each field on the length has this one
-abbrev pub EachLengthIs : FieldList → ℕ → Type 0
-EachLengthIs fields n = All (λ text. IsLength text n) (values content_length fields)
+-- each of the values is this length
+abbrev pub EachLengthIs : List (List ℕ) → ℕ → Type 0
+EachLengthIs texts n = All (λ text. IsLength text n) texts
+
+-- what these values declare: each is this length, or there is none
+abbrev pub Declare : List (List ℕ) → Option ℕ → Type 0
+Declare texts None = texts ≡ []
+Declare texts (Some n) = (0 < length texts) × EachLengthIs texts n
+
+-- there are values, and they declare no length: one is malformed, or two are unequal
+abbrev pub Contradict : List (List ℕ) → Type 0
+Contradict texts = (0 < length texts) × ((n : ℕ) → ¬ (EachLengthIs texts n))
 
 -- there is a field on the length, and each has this one
 abbrev pub DeclaresLength : FieldList → ℕ → Type 0
-DeclaresLength fields n = (0 < length (values content_length fields)) × EachLengthIs fields n
+DeclaresLength fields n = Declare (values content_length fields) (Some n)
 
 abbrev pub DeclaresNoLength : FieldList → Type 0
-DeclaresNoLength fields = values content_length fields ≡ []
+DeclaresNoLength fields = Declare (values content_length fields) None
 
 -- a transfer coding is named
 abbrev pub IsCoded : FieldList → Type 0
 IsCoded fields = 0 < length (values transfer_encoding fields)
 
--- there is a field on the length, and they declare none: one is malformed, or two are unequal
+-- the fields on the length declare none
 abbrev pub HasNoOneLength : FieldList → Type 0
-HasNoOneLength fields = (0 < length (values content_length fields)) × ((n : ℕ) → ¬ (EachLengthIs fields n))
-
--- with one more value on the length, if there is one, this is declared: the value's own, which is also that before
-abbrev pub Declares : Option ℕ → Option (List ℕ) → Option ℕ → Type 0
-Declares before None length = length ≡ before
-Declares before (Some text) None = ⊥
-Declares None (Some text) (Some n) = IsLength text n
-Declares (Some other) (Some text) (Some n) = IsLength text n × (n ≡ other)
-
--- no length is one of the value and the one declared before
-abbrev pub Contradicts : Option ℕ → Option (List ℕ) → Type 0
-Contradicts before None = ⊥
-Contradicts None (Some text) = (n : ℕ) → ¬ (IsLength text n)
-Contradicts (Some other) (Some text) = (n : ℕ) → IsLength text n → n ≢ other
+HasNoOneLength fields = Contradict (values content_length fields)
 
 -- the lengths are malformed or unequal, or a transfer coding stands beside one
 abbrev pub HasBadLength : FieldList → Type 0

@@ -1,11 +1,11 @@
 //! What the fields of one name say.
 
-ghost use Rattle.std.specs.Prelude.{◌≡◌, ◌↔◌, ◌<◌, ℕ, [], IsTrue, length, slice_index_or, IfSome, IfNone, IfOk, OnErr};
+ghost use Rattle.std.specs.Prelude.{◌≡◌, ◌↔◌, ◌<◌, ◌++◌, ℕ, List, [], IsTrue, length, slice_index_or, option_to_list, IfSome, IfNone, IsSomeAnd, IfOk, OnErr};
 ghost use Rattle.std.specs.Char.{is_ascii_digit};
 ghost use Rattle.std.specs.List.{AllPass};
 ghost use Rattle.std.specs.Option.{option_copied};
 ghost use Rattle.sz_head.specs.Parts.{fields_of};
-ghost use Rattle.sz_body.specs.Framing.{Contradicts, Declares, DeclaresLength, DeclaresNoLength, EachIs, HasNoOneLength, IsLength, IsSameText, value_if, values};
+ghost use Rattle.sz_body.specs.Framing.{AnyIs, Contradict, Declare, DeclaresLength, DeclaresNoLength, EachIs, HasNoOneLength, IsLength, IsSameText, value_if, values};
 
 use std::str;
 use sz_head::Fields;
@@ -52,6 +52,29 @@ fn is_none_or_same(found: Option<&[u8]>, value: &[u8]) -> bool
     }
 }
 
+/// Whether any field of this name has this value.
+pub(crate) fn any_is(fields: &Fields<'_>, name: &[u8], value: &[u8]) -> bool
+    ensures { IsTrue result ↔ AnyIs name.now value.now (fields_of fields.now) }
+{
+    for index in 0..fields.len() {
+        let found = value_at(fields, name, index);
+        if is_some_and_same(found, value) {
+            return true;
+        }
+    }
+    false
+}
+
+// Whether a value was found that is this one.
+fn is_some_and_same(found: Option<&[u8]>, value: &[u8]) -> bool
+    ensures { IsTrue result ↔ IsSomeAnd (option_copied found.entry) (λ text. IsSameText text value.now) }
+{
+    match found {
+        Some(text) => text.eq_ignore_ascii_case(value),
+        None => false,
+    }
+}
+
 /// The one length that the fields declare, if any does.
 pub(crate) fn declared_length(fields: &Fields<'_>) -> Result<Option<u64>, NoOneLength>
     ensures some { IfOk result (λ declared. IfSome declared (DeclaresLength (fields_of fields.now))) }
@@ -71,8 +94,10 @@ pub(crate) fn declared_length(fields: &Fields<'_>) -> Result<Option<u64>, NoOneL
 
 // What is declared with one more field on the length, if one was found.
 fn with_length(declared: Option<u64>, found: Option<&[u8]>) -> Result<Option<u64>, NoOneLength>
-    ensures ok { IfOk result (λ length. Declares declared (option_copied found.entry) length) }
-    ensures err { OnErr result (Contradicts declared (option_copied found.entry)) }
+    ensures ok { IfOk result (λ length. (texts : List (List ℕ)) → Declare texts declared
+        → Declare (texts ++ option_to_list (option_copied found.entry)) length) }
+    ensures err { OnErr result ((texts : List (List ℕ)) → Declare texts declared
+        → Contradict (texts ++ option_to_list (option_copied found.entry))) }
 {
     let Some(text) = found else {
         return Ok(declared);

@@ -1,5 +1,5 @@
 -- A chunked body after one more byte and after bytes of a chunk.
-use Rattle.std.proofs.Common.{◌≡◌, ℕ, zero, suc, true, ◌-◌, ◌<◌, ◌≤◌, List, [], ◌∷◌, ◌++◌, length, take, refl, sym, ap, ◌∙◌, subst, arith, append_assoc, append-nil, length-append, All, Ok, Err}
+use Rattle.std.proofs.Common.{◌≡◌, ℕ, zero, suc, true, ◌-◌, ◌<◌, ◌≤◌, List, [], ◌∷◌, ◌++◌, length, take, refl, sym, ap, ◌∙◌, subst, arith, append_assoc, append-nil, length-append, inr, ◌≢◌, All, Ok, Err}
 use Rattle.std.proofs.lemmas.List.{flat_map_more}
 use Rattle.std.proofs.lemmas.List.Elements.{All-nil, All-push, All-weaker}
 use Rattle.std.specs.List.{flat_map}
@@ -10,17 +10,19 @@ use Rattle.sz_head.specs.Head.{IsHead, HasNoHead}
 use Rattle.sz_head.specs.declared.progress.Progress.{Progress}
 use Rattle.sz_head.specs.declared.progress.Progress.TheVariants.{More, Whole as WholeHead}
 use Rattle.sz_head.specs.Reading.{Answers as AnswersHead, Takes as TakesHead, IsMore, IsWhole, IsRefused}
-use Rattle.sz_head.proofs.Stands.{none_open, trailer_stands}
+use Rattle.sz_head.proofs.Stands.{unfinished_open, trailer_stands}
 use Rattle.sz_head.specs.declared.place.Place.TheVariants.{Line}
 use Rattle.sz_chunked.specs.declared.size.Size.{Size}
 use Rattle.sz_chunked.specs.declared.place.Place.{Place}
 use Rattle.sz_chunked.specs.declared.place.Place.TheVariants.{InSize, InExtension, LineFeed, InData, DataEnd, DataLineFeed, Between, InTrailer, Whole}
 use Rattle.sz_chunked.specs.declared.fault.ChunkFault.{ChunkFault}
 use Rattle.sz_chunked.specs.declared.fault.ChunkFault.TheVariants.{BadChunk, TooLarge}
-use Rattle.sz_chunked.specs.Chunked.{line_text, Chunk, print_chunk, IsChunk, content_of, ReadsChunked, BeginsChunked, NeverChunked}
-use Rattle.sz_chunked.specs.Part.{At, NoneFrom, IsShortChunk, Refuses, is_at_line}
-use Rattle.sz_chunked.specs.Reading.{Stands, Came, RefusesNext}
-use Rattle.sz_chunked.proofs.ChunkLines.{behind_chunks, bad_trailer}
+use Rattle.sz_chunked.specs.Chunked.{line_text, Chunk, print_chunk, IsChunk, IsShortChunk, content_of, ReadsShort, BeginsChunked, NeverChunked}
+use Rattle.httparse.specs.Grammar.{is_extension_byte}
+use Rattle.sz_chunked.specs.Place.{At, NoneFrom, Refuses, extended, is_at_line}
+use Rattle.sz_chunked.specs.Reading.{Stands, Came}
+use Rattle.sz_chunked.specs.Refusal.{EndsInLongLine, RefusesNext}
+use Rattle.sz_chunked.proofs.ChunkLines.{behind_chunks, bad_trailer, plain}
 
 pub stands_first : (size : Size) → size.count ≡ 0 → size.value ≡ 0 → Stands (InSize size) [] []
 stands_first size count value = record {
@@ -85,7 +87,7 @@ never_after place byte bytes content stands refuses =
 pub trailer_begins : (trailer : HeadReading) (bytes content : List ℕ) → Stands InTrailer bytes content → TakesHead trailer Trailer []
     → Came trailer InTrailer bytes content
 trailer_begins trailer bytes content stands takes =
-    (bytes, [], sym (append-nil bytes), stands, takes, none_open Trailer [] (Line 64) trailer_stands refl)
+    (bytes, [], sym (append-nil bytes), stands, takes, unfinished_open Trailer [] (Line 64) trailer_stands refl)
 
 pub trailer_more : (old new : HeadReading) (byte : ℕ) (bytes content : List ℕ) (came : Came old InTrailer bytes content)
     → IsMore Trailer (came.1 ++ byte ∷ []) new → Came new InTrailer (bytes ++ byte ∷ []) content
@@ -95,7 +97,7 @@ trailer_more old new byte bytes content came more = (
   ap (λ (t : List ℕ). t ++ byte ∷ []) came.2 ∙ append_assoc came.0 came.1 (byte ∷ []),
   came.3,
   more.taken,
-  more.unfinished.none,
+  more.unfinished,
 )
 
 one_taken : (text : List ℕ) (byte used : ℕ) → used ≤ 1 → HasNoHead Trailer text → IsHead Trailer (text ++ take used (byte ∷ []))
@@ -105,26 +107,30 @@ one_taken text byte (suc zero) within none head = head
 one_taken text byte (suc (suc used)) within none head = absurd (omega arith)
 
 pub trailer_whole : (old new : HeadReading) (byte used : ℕ) (bytes content : List ℕ) (came : Came old InTrailer bytes content)
-    → IsWhole Trailer came.1 (byte ∷ []) used new → ReadsChunked (bytes ++ byte ∷ []) content []
+    → IsWhole Trailer came.1 (byte ∷ []) used new → ReadsShort (bytes ++ byte ∷ []) content []
 trailer_whole old new byte used bytes content came whole =
     let stands = came.3 in
     let line = stands.at.0 in
     let text = came.1 ++ byte ∷ [] in
     record {
-      chunks = stands.chunks;
-      last = line;
-      trailer = came.1 ++ byte ∷ [];
-      each = chunks_valid stands.chunks stands.each;
-      last_line = stands.at.1.short.valid;
-      zero_size = stands.at.1.sized;
-      is_trailer = one_taken came.1 byte used whole.within came.5 whole.head;
-      text_is =
-          ap (λ (t : List ℕ). t ++ byte ∷ []) came.2 ∙ append_assoc came.0 came.1 (byte ∷ [])
-          ∙ ap (λ (t : List ℕ). t ++ text) stands.bytes_are ∙ append_assoc (flat_map print_chunk stands.chunks) stands.tail text
-          ∙ ap (λ (t : List ℕ). flat_map print_chunk stands.chunks ++ t)
-          (ap (λ (t : List ℕ). t ++ text) stands.at.3 ∙ append_assoc (line_text line) (13 ∷ 10 ∷ []) text
-          ∙ ap (λ (t : List ℕ). line_text line ++ 13 ∷ 10 ∷ t) (sym (append-nil text)));
-      content_is = stands.content_is ∙ ap (λ (t : List ℕ). content_of stands.chunks ++ t) stands.at.2 ∙ append-nil (content_of stands.chunks);
+      reads = record {
+        chunks = stands.chunks;
+        last = line;
+        trailer = came.1 ++ byte ∷ [];
+        each = chunks_valid stands.chunks stands.each;
+        last_line = stands.at.1.short.valid;
+        zero_size = stands.at.1.sized;
+        is_trailer = one_taken came.1 byte used whole.within came.5.none whole.head;
+        text_is =
+            ap (λ (t : List ℕ). t ++ byte ∷ []) came.2 ∙ append_assoc came.0 came.1 (byte ∷ [])
+            ∙ ap (λ (t : List ℕ). t ++ text) stands.bytes_are ∙ append_assoc (flat_map print_chunk stands.chunks) stands.tail text
+            ∙ ap (λ (t : List ℕ). flat_map print_chunk stands.chunks ++ t)
+            (ap (λ (t : List ℕ). t ++ text) stands.at.3 ∙ append_assoc (line_text line) (13 ∷ 10 ∷ []) text
+            ∙ ap (λ (t : List ℕ). line_text line ++ 13 ∷ 10 ∷ t) (sym (append-nil text)));
+        content_is = stands.content_is ∙ ap (λ (t : List ℕ). content_of stands.chunks ++ t) stands.at.2 ∙ append-nil (content_of stands.chunks);
+      };
+      each = stands.each;
+      last = stands.at.1.short;
     }
 
 pub trailer_refused : (old new : HeadReading) (byte : ℕ) (bytes content : List ℕ) (came : Came old InTrailer bytes content)
@@ -195,20 +201,45 @@ stands_of trailer Between bytes content line came = absurd (cc)
 stands_of trailer InTrailer bytes content line came = absurd (cc)
 stands_of trailer Whole bytes content line came = absurd (cc)
 
+-- the 257th byte of an extension ends a line of so many
+long_line : (size len byte : ℕ) (bytes content : List ℕ) → Stands (InExtension size len) bytes content → len ≡ 256 → byte ≢ 13 → byte ≢ 10
+    → EndsInLongLine (bytes ++ byte ∷ [])
+long_line size len byte bytes content stands full not_cr not_lf =
+    let here = stands.at in
+    let valid = here.2.short.valid in
+    let longer : stands.tail ++ byte ∷ [] ≡ here.0 ++ 59 ∷ (here.1 ++ byte ∷ []) =
+    ap (λ (t : List ℕ). t ++ byte ∷ []) here.3 ∙ append_assoc here.0 (59 ∷ here.1) (byte ∷ []) in
+    record {
+      chunks = stands.chunks;
+      line = extended here.0 (here.1 ++ byte ∷ []);
+      each = stands.each;
+      valid = record {
+        some = valid.some;
+        few = valid.few;
+        digits = valid.digits;
+        extension = All-push (λ v. is_extension_byte v ≡ true) here.1 byte valid.extension (plain byte not_cr not_lf);
+      };
+      long = omega (arith, ap length longer, length-append stands.tail (byte ∷ []), here.4);
+      is =
+          ap (λ (t : List ℕ). t ++ byte ∷ []) stands.bytes_are ∙ append_assoc (flat_map print_chunk stands.chunks) stands.tail (byte ∷ [])
+          ∙ ap (λ (t : List ℕ). flat_map print_chunk stands.chunks ++ t) longer;
+    }
+
 pub line_refused : (trailer : HeadReading) (place : Place) (byte : ℕ) (fault : ChunkFault) (limit : ℕ) (bytes content : List ℕ)
     → is_at_line place ≡ true → Came trailer place bytes content → Refuses place byte (Err fault)
-    → RefusesNext place limit bytes content byte fault
+    → RefusesNext limit bytes content byte fault
 line_refused trailer place byte BadChunk limit bytes content line came refuses =
     never_after place byte bytes content (stands_of trailer place bytes content line came) refuses
-line_refused trailer (InSize size) byte (TooLarge most) limit bytes content line came refuses = refuses
-line_refused trailer (InExtension size len) byte (TooLarge most) limit bytes content line came refuses = refuses
-line_refused trailer (LineFeed size) byte (TooLarge most) limit bytes content line came refuses = refuses
-line_refused trailer (InData left) byte (TooLarge most) limit bytes content line came refuses = absurd (cc)
-line_refused trailer DataEnd byte (TooLarge most) limit bytes content line came refuses = refuses
-line_refused trailer DataLineFeed byte (TooLarge most) limit bytes content line came refuses = refuses
-line_refused trailer Between byte (TooLarge most) limit bytes content line came refuses = refuses
-line_refused trailer InTrailer byte (TooLarge most) limit bytes content line came refuses = refuses
-line_refused trailer Whole byte (TooLarge most) limit bytes content line came refuses = refuses
+line_refused trailer (InSize size) byte (TooLarge most) limit bytes content line came refuses = absurd refuses
+line_refused trailer (InExtension size len) byte (TooLarge most) limit bytes content line came refuses =
+    inr (refuses.1, long_line size len byte bytes content came refuses.0 refuses.2 refuses.3)
+line_refused trailer (LineFeed size) byte (TooLarge most) limit bytes content line came refuses = absurd refuses
+line_refused trailer (InData left) byte (TooLarge most) limit bytes content line came refuses = absurd refuses
+line_refused trailer DataEnd byte (TooLarge most) limit bytes content line came refuses = absurd refuses
+line_refused trailer DataLineFeed byte (TooLarge most) limit bytes content line came refuses = absurd refuses
+line_refused trailer Between byte (TooLarge most) limit bytes content line came refuses = absurd refuses
+line_refused trailer InTrailer byte (TooLarge most) limit bytes content line came refuses = absurd refuses
+line_refused trailer Whole byte (TooLarge most) limit bytes content line came refuses = absurd refuses
 
 -- ---- the answers of the trailer's reading
 

@@ -13,9 +13,9 @@ use Rattle.httparse.proofs.RunLemmas.{run_unique}
 use Rattle.sz_head.specs.declared.kind.Kind.TheVariants.{Trailer}
 use Rattle.sz_head.specs.Head.{IsHead, BeginsWithHead, NeverHasHead}
 use Rattle.sz_chunked.specs.Chunked.{SizeLine, line_text, line_size, IsSizeLine, Chunk, print_chunk, IsChunk, content_of, BeginsChunked}
-use Rattle.sz_chunked.specs.Part.{NoneFrom}
+use Rattle.sz_chunked.specs.Place.{NoneFrom}
 
-more_bytes : {b c : ℕ} {xs ys : List ℕ} → b ∷ xs ≡ c ∷ ys → (b ≡ c) × (xs ≡ ys)
+pub more_bytes : {b c : ℕ} {xs ys : List ℕ} → b ∷ xs ≡ c ∷ ys → (b ≡ c) × (xs ≡ ys)
 more_bytes e = (cc, cc)
 
 -- ---- bytes that are neither CR nor LF
@@ -205,7 +205,8 @@ bad_line_feed tail b all is more begins =
     let first = first_line ((tail ++ b ∷ []) ++ more) begins in
     let joined : tail ++ 10 ∷ more ≡ line_text first.line ++ 13 ∷ 10 ∷ first.after =
     ap (λ (v : ℕ). tail ++ v ∷ more) (sym is) ∙ sym (append_assoc tail (b ∷ []) more) ∙ first.is in
-    let run = run_unique is_extension_byte tail (line_text first.line) (10 ∷ more) (13 ∷ 10 ∷ first.after) all (plain_line first.line first.valid) refl refl joined in
+    let run = run_unique is_extension_byte tail (line_text first.line) (10 ∷ more) (13 ∷ 10 ∷ first.after) all
+    (plain_line first.line first.valid) refl refl joined in
     let same : ◌≡◌ {A = ℕ} 10 13 = (more_bytes run.1).0 in omega arith
 
 -- another byte than LF after the CR of a line
@@ -215,7 +216,8 @@ bad_after_cr line tail b valid is other more begins =
     let joined : line_text line ++ 13 ∷ b ∷ more ≡ line_text first.line ++ 13 ∷ 10 ∷ first.after =
     sym (append_assoc (line_text line) (13 ∷ []) (b ∷ more)) ∙ ap (λ (t : List ℕ). t ++ b ∷ more) (sym is)
     ∙ sym (append_assoc tail (b ∷ []) more) ∙ first.is in
-    let same = same_text (line_text line) (line_text first.line) (b ∷ more) (10 ∷ first.after) (plain_line line valid) (plain_line first.line first.valid) joined in
+    let same = same_text (line_text line) (line_text first.line) (b ∷ more) (10 ∷ first.after) (plain_line line valid)
+    (plain_line first.line first.valid) joined in
     other (more_bytes same.1).0
 
 -- what stands behind a line and the bytes of its chunk

@@ -8,8 +8,8 @@ use Rattle.httparse.specs.Grammar.{AllPass, is_extension_byte}
 use Rattle.httparse.proofs.ChunkLemmas.{digits_value_after_push}
 use Rattle.sz_chunked.specs.declared.size.Size.{Size}
 use Rattle.sz_chunked.specs.declared.place.Place.TheVariants.{InSize, InExtension, LineFeed, InData, DataEnd, DataLineFeed, Between, InTrailer}
-use Rattle.sz_chunked.specs.Chunked.{SizeLine, line_text}
-use Rattle.sz_chunked.specs.Part.{At, NoneFrom, IsLineOf, extended, most_line_bytes}
+use Rattle.sz_chunked.specs.Chunked.{SizeLine, line_text, most_line_bytes}
+use Rattle.sz_chunked.specs.Place.{At, NoneFrom, IsLineOf, extended}
 use Rattle.sz_chunked.proofs.ChunkLines.{bad_after_digits, bad_digit, bad_line_feed, bad_after_cr, bad_data_end, bad_data_line_feed, plain, plain_digits}
 
 -- ---- the size
@@ -38,7 +38,7 @@ pub other_at : (size : Size) (byte : ℕ) (tail part : List ℕ) → is_ascii_he
 other_at size byte tail part fails not_semicolon not_cr here = bad_after_digits tail byte here.0 fails (inr (not_semicolon, not_cr))
 
 -- the line of the digits alone
-plain_of : (size : Size) (tail part : List ℕ) → size.count ≢ 0 → At (InSize size) tail part
+pub plain_of : (size : Size) (tail part : List ℕ) → size.count ≢ 0 → At (InSize size) tail part
     → IsLineOf size.value (record { digits = tail; extension = None })
 plain_of size tail part some here = record {
   short = record {

@@ -1,17 +1,19 @@
 -- A chunked body after a piece.
-use Rattle.std.proofs.Common.{◌≡◌, ◌≢◌, ℕ, ◌+◌, ◌-◌, ◌<◌, ◌≤◌, ◌⊎◌, true, List, ◌∷◌, ◌++◌, length, take, drop, get_or, refl, sym, ap, ◌∙◌, subst, arith, append_assoc, length-append, length-take, length-drop, take-append-drop, inl, inr}
+use Rattle.std.proofs.Common.{◌≡◌, ◌≢◌, ℕ, ◌+◌, ◌-◌, ◌<◌, ◌≤◌, ◌⊎◌, true, false, List, [], ◌∷◌, ◌++◌, length, take, drop, get_or, refl, sym, ap, ◌∙◌, subst, arith, append_assoc, length-append, length-take, length-drop, take-append-drop, inl, inr}
 use Rattle.std.proofs.Math.Seq.{take-add}
 use Rattle.std.proofs.lemmas.Bool.{cases_lt}
 use Rattle.std.proofs.lemmas.List.{drop_more}
 use Rattle.sz_head.specs.declared.reading.HeadReading.{HeadReading}
-use Rattle.sz_chunked.specs.declared.body.ChunkedBody.{ChunkedBody}
 use Rattle.sz_chunked.specs.declared.fault.ChunkFault.{ChunkFault}
 use Rattle.sz_chunked.specs.declared.fault.ChunkFault.TheVariants.{TooLarge}
 use Rattle.sz_chunked.specs.declared.place.Place.{Place}
 use Rattle.sz_chunked.specs.declared.place.Place.TheVariants.{InSize, InExtension, LineFeed, InData, DataEnd, DataLineFeed, Between, InTrailer, Whole}
-use Rattle.sz_chunked.specs.Part.{is_at_line, is_framing}
-use Rattle.sz_chunked.specs.Reading.{Stands, Came, Takes, RefusesNext, IsRefused}
+use Rattle.sz_chunked.specs.Part.{IsPart}
+use Rattle.sz_chunked.specs.Place.{is_at_line, is_framing}
+use Rattle.sz_chunked.specs.Reading.{Stands, Came}
+use Rattle.sz_chunked.specs.Refusal.{RefusesNext, IsRefused}
 use Rattle.sz_chunked.proofs.Bodies.{data_more, data_whole}
+use Rattle.sz_chunked.proofs.Parts.{part_of}
 
 -- a place in a line, in the trailer, or neither
 pub line_otherwise : (place : Place) → is_framing place ≡ true → place ≢ InTrailer → is_at_line place ≡ true
@@ -33,38 +35,53 @@ around before piece used inside =
     (sym (take-append-drop used piece) ∙ ap (λ (t : List ℕ). take used piece ++ t) (drop_more piece used 0 inside))
     ∙ sym (append_assoc before (take used piece) (get_or piece used 0 ∷ drop (used + 1) piece))
 
-pub refused_at : (reading : ChunkedBody) (limit used : ℕ) (before content piece : List ℕ) (fault : ChunkFault) → used < length piece
-    → Takes reading limit (before ++ take used piece) content
-    → RefusesNext reading.place limit (before ++ take used piece) content (get_or piece used 0) fault → IsRefused limit (before ++ piece) fault
-refused_at reading limit used before content piece fault inside takes why = record {
-  trailer = reading.trailer;
-  place = reading.place;
+pub refused_at : (trailer : HeadReading) (place : Place) (limit used : ℕ) (before content piece : List ℕ) (fault : ChunkFault) → used < length piece
+    → Came trailer place (before ++ take used piece) content → place ≢ Whole → length content ≤ limit
+    → RefusesNext limit (before ++ take used piece) content (get_or piece used 0) fault → IsRefused limit (before ++ piece) fault
+refused_at trailer place limit used before content piece fault inside came other few why = record {
   front = before ++ take used piece;
   content = content;
   byte = get_or piece used 0;
   rest = drop (used + 1) piece;
   text_is = around before piece used inside;
-  few = omega (arith, takes.room);
-  came = takes.came;
+  part = part_of trailer place (before ++ take used piece) content came other;
+  few = few;
   why = why;
 }
+
+-- one byte more of a chunk
+byte_more : (trailer : HeadReading) (left byte : ℕ) (bytes content : List ℕ) → Stands (InData left) bytes content → 0 < left
+    → IsPart (bytes ++ byte ∷ []) (content ++ byte ∷ [])
+byte_more trailer left byte bytes content stands some = judged (cases_lt 1 left)
+  where
+    judged : (1 < left) ⊎ (left ≤ 1) → IsPart (bytes ++ byte ∷ []) (content ++ byte ∷ [])
+    judged (inl more) =
+        part_of trailer (InData (left - 1)) (bytes ++ byte ∷ []) (content ++ byte ∷ []) (data_more left bytes content (byte ∷ []) stands more) (λ e. cc)
+    judged (inr last) =
+        part_of trailer DataEnd (bytes ++ byte ∷ []) (content ++ byte ∷ []) (data_whole left bytes content (byte ∷ []) stands (omega arith)) (λ e. cc)
 
 -- the first byte past the limit
 pub refused_over : (trailer : HeadReading) (limit left room : ℕ) (bytes content rest : List ℕ) → Stands (InData left) bytes content
     → length content + room ≡ limit → room < left → room < length rest → IsRefused limit (bytes ++ rest) (TooLarge limit)
 refused_over trailer limit left room bytes content rest stands full some inside =
     let short : length (take room rest) ≡ room = omega (arith, length-take room rest) in
+    let here = data_more left bytes content (take room rest) stands (omega arith) in
+    let most : length (content ++ take room rest) ≡ limit = omega (arith, length-append content (take room rest)) in
     record {
-      trailer = trailer;
-      place = InData (left - length (take room rest));
       front = bytes ++ take room rest;
       content = content ++ take room rest;
       byte = get_or rest room 0;
       rest = drop (room + 1) rest;
       text_is = around bytes rest room inside;
-      few = omega (arith, length-append content (take room rest));
-      came = data_more left bytes content (take room rest) stands (omega arith);
-      why = (refl, omega (arith, length-append content (take room rest)));
+      part = part_of trailer (InData (left - length (take room rest))) (bytes ++ take room rest) (content ++ take room rest) here (λ e. cc);
+      few = omega (arith, most);
+      why = inl (
+        refl,
+        (
+          most,
+          byte_more trailer (left - length (take room rest)) (get_or rest room 0) (bytes ++ take room rest) (content ++ take room rest) here (omega arith),
+        ),
+      );
     }
 
 -- ---- the bytes of a chunk
@@ -94,7 +111,8 @@ data_taken trailer left count used before content piece place stands few inside 
     judged : (count < left) ⊎ (left ≤ count) → Came trailer place (before ++ take (used + count) piece) (content ++ take count (drop used piece))
     judged (inl short) =
         let here = data_more left (before ++ take used piece) content (take count (drop used piece)) stands (omega (arith, long)) in
-        let there = subst (λ (n : ℕ). Stands (InData (left - n)) ((before ++ take used piece) ++ take count (drop used piece)) (content ++ take count (drop used piece))) long here in
+        let some = take count (drop used piece) in
+        let there = subst (λ (n : ℕ). Stands (InData (left - n)) ((before ++ take used piece) ++ some) (content ++ some)) long here in
         subst (λ (p : Place). Came trailer p (before ++ take (used + count) piece) (content ++ take count (drop used piece))) (sym (more short))
         (subst (λ (t : List ℕ). Stands (InData (left - count)) t (content ++ take count (drop used piece))) joined there)
     judged (inr rest) =
@@ -130,3 +148,7 @@ framing_otherwise trailer DataLineFeed bytes content came no_data other = refl
 framing_otherwise trailer Between bytes content came no_data other = absurd came
 framing_otherwise trailer InTrailer bytes content came no_data other = refl
 framing_otherwise trailer Whole bytes content came no_data other = absurd (other refl)
+
+-- a place in a line, behind a chunk's bytes or in the trailer is not behind the body
+pub framing_other : (place : Place) → is_framing place ≡ true → place ≢ Whole
+framing_other place framing e = let shut : is_framing Whole ≡ false = refl in cc

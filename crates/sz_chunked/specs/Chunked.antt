@@ -28,6 +28,15 @@ pub record IsSizeLine (line : SizeLine) : Type 0 where
   pub digits : AllPass is_ascii_hexdigit line.digits
   pub extension : IsExtension line.extension
 
+-- how long the text of a line may be
+abbrev pub most_line_bytes : ℕ
+most_line_bytes = 256
+
+-- a line of at most so many bytes
+pub record IsShortLine (line : SizeLine) : Type 0 where
+  pub valid : IsSizeLine line
+  pub few : length (line_text line) ≤ most_line_bytes
+
 -- a chunk: its line, and its bytes
 pub record Chunk : Type 0 where
   pub line : SizeLine
@@ -41,6 +50,11 @@ pub record IsChunk (chunk : Chunk) : Type 0 where
   pub line : IsSizeLine chunk.line
   pub some : 0 < length chunk.bytes
   pub size : line_size chunk.line ≡ length chunk.bytes
+
+-- a chunk with a line of at most 256 bytes
+pub record IsShortChunk (chunk : Chunk) : Type 0 where
+  pub valid : IsChunk chunk
+  pub few : length (line_text chunk.line) ≤ most_line_bytes
 
 -- the bytes of all chunks
 abbrev pub content_of : List Chunk → List ℕ
@@ -57,6 +71,12 @@ pub record ReadsChunked (text content rest : List ℕ) : Type 0 where
   pub is_trailer : IsHead Trailer trailer
   pub text_is : text ≡ flat_map print_chunk chunks ++ (line_text last ++ (crlf_bytes ++ (trailer ++ rest)))
   pub content_is : content ≡ content_of chunks
+
+-- the same, and each line has at most 256 bytes
+pub record ReadsShort (text content rest : List ℕ) : Type 0 where
+  pub reads : ReadsChunked text content rest
+  pub each : All IsShortChunk reads.chunks
+  pub last : IsShortLine reads.last
 
 -- some front of the text is a chunked body
 abbrev pub BeginsChunked : List ℕ → Type 0

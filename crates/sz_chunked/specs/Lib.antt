@@ -1,3 +1,5 @@
 pub mod Chunked
 pub mod Part
+pub mod Place
 pub mod Reading
+pub mod Refusal

@@ -1,7 +1,7 @@
 //! A chunked body in pieces.
 
-ghost use Rattle.std.specs.Prelude.{◌≡◌, ◌≢◌, ◌-◌, ◌≤◌, ◌<◌, ◌++◌, ◌∷◌, [], ℕ, List, IfOk, IfErr, IsTrue, length, take};
-ghost use Rattle.sz_chunked.specs.Part.{is_at_line, is_framing};
+ghost use Rattle.std.specs.Prelude.{◌≡◌, ◌≢◌, ◌-◌, ◌≤◌, ◌<◌, ◌++◌, ◌∷◌, [], ℕ, List, IfOk, IfErr, IsErrOf, IsTrue, length, take};
+ghost use Rattle.sz_chunked.specs.Place.{is_at_line, is_framing};
 
 use crate::place::Place;
 use crate::size::Size;
@@ -18,10 +18,13 @@ pub struct ChunkedBody {
     limit: u64,
     room: u64,
     trailer: HeadReading,
+    failed: Option<ChunkFault>,
 }
 
 impl ChunkedBody {
-    ghost use Rattle.sz_chunked.specs.Reading.{Answers, Came, IsRefused, RefusesNext, Stands, Takes};
+    ghost use Rattle.sz_chunked.specs.declared.fault.ChunkFault.{ChunkFault};
+    ghost use Rattle.sz_chunked.specs.Reading.{Answers, Came, HasRefused, Stands, Takes};
+    ghost use Rattle.sz_chunked.specs.Refusal.{IsRefused, RefusesNext};
 
     /// A reading of a body of at most so many bytes, before its first one.
     pub fn create(alloc: Global, limit: u64) -> Result<ChunkedBody, OutOfMemory>
@@ -33,6 +36,7 @@ impl ChunkedBody {
             limit,
             room: limit,
             trailer,
+            failed: None,
         })
     }
 
@@ -43,6 +47,7 @@ impl ChunkedBody {
         self.place = Place::InSize(Size::none());
         self.limit = limit;
         self.room = limit;
+        self.failed = None;
     }
 
     // Takes a byte of a line, or one that ends a chunk.
@@ -51,7 +56,7 @@ impl ChunkedBody {
         ensures ok { IfOk result (λ done. (limit : ℕ) (bytes content : List ℕ) → Takes self.old limit bytes content
             → Takes self.new limit (bytes ++ byte ∷ []) content) }
         ensures err { IfErr result (λ fault. (limit : ℕ) (bytes content : List ℕ) → Takes self.old limit bytes content
-            → RefusesNext self.old.place limit bytes content byte fault) }
+            → RefusesNext limit bytes content byte fault) }
     {
         match self.place.after(byte) {
             Ok(next) => {
@@ -69,6 +74,7 @@ impl ChunkedBody {
             → Came self.new.trailer self.new.place bytes content }
         ensures limit { self.new.limit ≡ self.old.limit }
         ensures room { self.new.room ≡ self.old.room }
+        ensures failed { self.new.failed ≡ self.old.failed }
     {
         match next {
             Place::Between => self.place = Place::InSize(Size::none()),
@@ -86,7 +92,7 @@ impl ChunkedBody {
         ensures ok { IfOk result (λ done. (limit : ℕ) (bytes content : List ℕ) → Takes self.old limit bytes content
             → Takes self.new limit (bytes ++ byte ∷ []) content) }
         ensures err { IfErr result (λ fault. (limit : ℕ) (bytes content : List ℕ) → Takes self.old limit bytes content
-            → RefusesNext self.old.place limit bytes content byte fault) }
+            → RefusesNext limit bytes content byte fault) }
     {
         match self.trailer.feed(&[byte]) {
             Ok(Progress::More) => Ok(()),
@@ -104,7 +110,7 @@ impl ChunkedBody {
         ensures ok { IfOk result (λ done. (limit : ℕ) (bytes content : List ℕ) → Takes self.old limit bytes content
             → Takes self.new limit (bytes ++ byte ∷ []) content) }
         ensures err { IfErr result (λ fault. (limit : ℕ) (bytes content : List ℕ) → Takes self.old limit bytes content
-            → RefusesNext self.old.place limit bytes content byte fault) }
+            → RefusesNext limit bytes content byte fault) }
     {
         match self.place {
             Place::InTrailer => self.take_trailer_byte(byte),
@@ -157,9 +163,8 @@ impl ChunkedBody {
         })
     }
 
-    /// Takes a front of the next piece, with bytes of at most one chunk. It is told at the byte that decides it that
-    /// the body is whole or can't be one, however the bytes are cut. Behind the body no byte is taken.
-    pub fn feed<'a>(&mut self, piece: &'a [u8]) -> Result<Fed<'a>, ChunkFault>
+    // Takes a front of a piece of a body that was not refused.
+    fn take_front<'a>(&mut self, piece: &'a [u8]) -> Result<Fed<'a>, ChunkFault>
         ensures { (limit : ℕ) (before content : List ℕ) → Takes self.old limit before content
             → Answers result limit before content piece.now self.new }
     {
@@ -179,6 +184,27 @@ impl ChunkedBody {
                 body: b"",
                 done: false,
             }),
+        }
+    }
+
+    /// Takes a front of the next piece, with bytes of at most one chunk. It is told at the byte that decides it that
+    /// the body is whole or can't be one, however the bytes are cut. Behind the body no byte is taken, and after a
+    /// refusal each piece is refused for the same fault, until `begin`.
+    pub fn feed<'a>(&mut self, piece: &'a [u8]) -> Result<Fed<'a>, ChunkFault>
+        ensures answers { (limit : ℕ) (before content : List ℕ) → Takes self.old limit before content
+            → Answers result limit before content piece.now self.new }
+        ensures refused { IfErr result (HasRefused self.new) }
+        ensures stays { (fault : ChunkFault) → HasRefused self.old fault → IsErrOf result fault }
+    {
+        if let Some(fault) = self.failed {
+            return Err(fault);
+        }
+        match self.take_front(piece) {
+            Ok(fed) => Ok(fed),
+            Err(fault) => {
+                self.failed = Some(fault);
+                Err(fault)
+            }
         }
     }
 }

@@ -4,12 +4,14 @@
 mod body;
 mod fault;
 mod fed;
+mod laws;
 mod place;
 mod size;
 
 pub use body::ChunkedBody;
 pub use fault::ChunkFault;
 pub use fed::Fed;
+pub use laws::{chunked_bodies_read_once, refusals_are_one};
 pub use place::MOST_LINE_BYTES;
 
 #[cfg(test)]

@@ -2,7 +2,7 @@
 
 ghost use Rattle.std.specs.Prelude.{◌≡◌, ◌≢◌, false, IsTrue, IfOk};
 ghost use Rattle.std.specs.Char.{is_ascii_hexdigit};
-ghost use Rattle.sz_chunked.specs.Part.{Leads, Refuses, is_at_line, is_framing};
+ghost use Rattle.sz_chunked.specs.Place.{Leads, Refuses, is_at_line, is_framing};
 
 use crate::ChunkFault;
 use crate::size::Size;

@@ -96,3 +96,14 @@ fn the_longest_line(rt: HostRuntime) -> Result<(), Fail> {
     }
     Ok(())
 }
+
+#[test]
+fn a_refusal_stays(rt: HostRuntime) -> Result<(), Fail> {
+    let mut reading = ChunkedBody::create(rt.alloc(), 9)?;
+    for piece in [&b"1 "[..], b"1\r\na\r\n"] {
+        assert_eq!(rt; reading.feed(piece).err(), Some(ChunkFault::BadChunk));
+    }
+    reading.begin(9);
+    assert_eq!(rt; reading.feed(b"1\r\na\r\n").err(), None);
+    Ok(())
+}

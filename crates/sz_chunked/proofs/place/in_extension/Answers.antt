@@ -1,6 +1,6 @@
 use Rattle.std.proofs.Common.{◌≡◌, ℕ, ◌+◌, [], ◌∷◌, ◌++◌, length, ap, subst, arith}
 use Rattle.sz_chunked.specs.declared.place.Place.TheVariants.{InExtension}
-use Rattle.sz_chunked.specs.Part.{At}
+use Rattle.sz_chunked.specs.Place.{At}
 use Rattle.sz_chunked.proofs.ChunkSteps.{extension_end_at, extension_bad_at, extension_at}
 use Rattle.sz_chunked.proofs.place.in_extension.Goals as goal
 

@@ -4,6 +4,7 @@ use Rattle.std.proofs.lemmas.List.{take_rest}
 use Rattle.sz_chunked.specs.declared.place.Place.{Place}
 use Rattle.sz_chunked.specs.Reading.{Came}
 use Rattle.sz_chunked.proofs.Feeding.{data_taken, data_length, refused_data, not_whole}
+use Rattle.sz_chunked.proofs.Parts.{part_of}
 use Rattle.sz_chunked.proofs.body.ChunkedBody.take_data.Goals as goal
 
 pub returns-then-count-self : goal.returns-then-count-self
@@ -33,17 +34,18 @@ returns c = λ limit before content takes.
     let long = data_length count used piece inside in
     let full : length (take count (take (length piece - used) (drop used piece))) ≡ count =
     subst (λ (t : List ℕ). length (take count t) ≡ count) (sym body) long in
+    let bytes = before ++ take (used + count) piece in
+    let some = take count (take (length piece - used) (drop used piece)) in
+    let after = subst (λ (t : List ℕ). Came self.trailer c.after_data-self.result bytes (content ++ take count t)) (sym body) came in
+    let here : length (content ++ some) + (self.room - count) ≡ limit = omega (arith, takes.room, length-append content some) in
     record {
       within = inside;
-      taken = record {
-        limited = takes.limited;
-        room = omega (arith, takes.room, length-append content (take count (take (length piece - used) (drop used piece))));
-        came = subst (λ (t : List ℕ). Came self.trailer c.after_data-self.result (before ++ take (used + count) piece) (content ++ take count t))
-            (sym body) came;
+      taken = record { limited = takes.limited; going = takes.going; room = here; came = after };
+      done = λ e. absurd (false≢true e);
+      more = λ e. record {
+        part = part_of self.trailer c.after_data-self.result bytes (content ++ some) after
+            (not_whole c.args.left count c.after_data-self.result few c.after_data-self.ensures.more c.after_data-self.ensures.whole);
+        few = omega (arith, here);
       };
-      done = (
-        λ e. absurd (false≢true e),
-        λ e. absurd (not_whole c.args.left count c.after_data-self.result few c.after_data-self.ensures.more c.after_data-self.ensures.whole e),
-      );
       moves = λ none. inl (omega (arith, stands.at.2));
     }

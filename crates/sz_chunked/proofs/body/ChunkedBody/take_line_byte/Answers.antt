@@ -7,9 +7,11 @@ returns-in-Ok-clause-ok c = λ limit bytes content takes.
     let self = c.args.self.now in
     record {
       limited = c.go_to.ensures.limit ∙ takes.limited;
+      going = c.go_to.ensures.failed ∙ takes.going;
       room = ap (λ (n : ℕ). length content + n) c.go_to.ensures.room ∙ takes.room;
       came = c.go_to.ensures.came (bytes ++ c.args.byte ∷ []) content
-          (stands_after self.place c.in-Ok.next c.args.byte bytes content (stands_of self.trailer self.place bytes content c.requires takes.came) c.in-Ok.ensures.leads);
+          (stands_after self.place c.in-Ok.next c.args.byte bytes content
+          (stands_of self.trailer self.place bytes content c.requires takes.came) c.in-Ok.ensures.leads);
     }
 
 pub returns-in-Err-clause-err : goal.returns-in-Err-clause-err

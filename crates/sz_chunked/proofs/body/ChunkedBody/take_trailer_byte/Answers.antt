@@ -13,6 +13,7 @@ returns-in-Ok-More-clause-ok c = λ limit bytes content takes.
     (c.in-Ok-More.ensures.answers Trailer came.1 came.4) in
     record {
       limited = takes.limited;
+      going = takes.going;
       room = takes.room;
       came = subst (λ (p : Place). Came c.feed.new.self p (bytes ++ c.args.byte ∷ []) content) (sym c.requires)
           (trailer_more self.trailer c.feed.new.self c.args.byte bytes content came more);
@@ -26,6 +27,7 @@ returns-in-Ok-Whole-clause-ok c = λ limit bytes content takes.
     (c.in-Ok-Whole.ensures.answers Trailer came.1 came.4) in
     record {
       limited = takes.limited;
+      going = takes.going;
       room = takes.room;
       came = trailer_whole self.trailer c.feed.new.self c.args.byte c.in-Ok-Whole.field-0-0 bytes content came whole;
     }
