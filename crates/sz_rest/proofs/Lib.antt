@@ -1,0 +1,10 @@
+pub mod Rules
+pub mod Values
+pub mod Faults
+pub mod Replies
+pub mod Fields
+pub mod Messages
+pub mod Statuses
+pub mod Requests
+pub mod Plain
+pub mod ReadsBack
