@@ -1,18 +1,12 @@
 -- One more node is kept.
-use Rattle.std.proofs.Common.{◌≡◌, ℕ, zero, suc, ◌+◌, ◌-◌, ◌*◌, ◌^◌, ◌<◌, ◌≤◌, List, [], ◌∷◌, ◌++◌, length, get_or, arith, sym, ap, ap₂, ◌∙◌, subst, inl, inr, ◌/◌, pow_pos}
+use Rattle.std.proofs.Common.{◌≡◌, ℕ, length-append, zero, suc, ◌+◌, ◌-◌, ◌*◌, ◌^◌, ◌<◌, ◌≤◌, List, [], ◌∷◌, ◌++◌, length, get_or, arith, refl, sym, ap, ap₂, ◌∙◌, subst, inl, inr, ◌/◌, pow_pos}
 use Rattle.std.proofs.lemmas.Bool.{cases_lt}
-use Rattle.std.proofs.lemmas.List.{get_or_push, get_or_append_left, length_push}
+use Rattle.std.proofs.lemmas.List.{get_or_push, get_or_append_left, get_or-append_right, length_push}
 use Rattle.sz_lms.specs.Lms.{inner_node}
 use Rattle.sz_lms_tree.specs.Tree.{TreeSecret, node_of, leaf_of, sibling}
-use Rattle.sz_lms_tree.specs.Kept.{KeepsFrom, IsKept, place_of}
+use Rattle.sz_lms_tree.specs.Kept.{AreLeaves, KeepsFrom, IsKept, place_of}
 use Rattle.sz_lms_tree.specs.Places.{IsNodeAt}
 use Rattle.sz_lms_tree.proofs.Places.{IsNodeAt-small, IsNodeAt-left, IsNodeAt-right, IsNodeAt-leaf, IsNodeAt-sibling}
-
-pub KeepsFrom-none : (secret : TreeSecret) → KeepsFrom (2 * 2 ^ secret.height) secret []
-KeepsFrom-none secret = record {
-  count = omega arith;
-  each = λ n r d at le. absurd (omega (arith, IsNodeAt-small secret.height n r at));
-}
 
 pub KeepsFrom-more : (secret : TreeSecret) (low : ℕ) (nodes : List (List ℕ)) (value : List ℕ)
     → KeepsFrom (low + 1) secret nodes → ((n : ℕ) → IsNodeAt secret.height n low → value ≡ node_of secret n low)
@@ -31,17 +25,70 @@ KeepsFrom-more secret low nodes value kept is = record {
   ];
 }
 
--- leaf q
-pub KeepsFrom-leaf : (secret : TreeSecret) (q : ℕ) (nodes : List (List ℕ))
-    → KeepsFrom (2 ^ secret.height + q + 1) secret nodes
-    → KeepsFrom (2 ^ secret.height + q) secret (nodes ++ leaf_of secret q ∷ [])
+-- ---- leaves
+
+pub AreLeaves-none : (secret : TreeSecret) (from : ℕ) → AreLeaves secret from 0 []
+AreLeaves-none secret from = record { count = refl; each = λ k d lt. absurd (omega arith) }
+
+-- one more leaf before them
+pub AreLeaves-more : (secret : TreeSecret) (from n : ℕ) (values : List (List ℕ)) → AreLeaves secret (from + 1) n values
+    → AreLeaves secret from (n + 1) (values ++ leaf_of secret from ∷ [])
+AreLeaves-more secret from n values leaves = record {
+  count = omega (arith, length_push values (leaf_of secret from), leaves.count);
+  each = λ k d lt. elim (cases_lt 0 k) [
+    | inl later ↦
+        let inside : n + 1 - 1 - k < length values = omega (arith, leaves.count) in
+        let place : n + 1 - 1 - k ≡ n - 1 - (k - 1) = omega arith in
+        let leaf : from + 1 + (k - 1) ≡ from + k = omega arith in
+        get_or_append_left values (leaf_of secret from ∷ []) d (n + 1 - 1 - k) inside
+        ∙ ap (λ (i : ℕ). get_or values i d) place
+        ∙ leaves.each (k - 1) d (omega arith)
+        ∙ ap (leaf_of secret) leaf
+    | inr first ↦
+        let last : length values ≡ n + 1 - 1 - k = omega (arith, leaves.count) in
+        let leaf : from ≡ from + k = omega arith in
+        get_or_push values (leaf_of secret from) d (n + 1 - 1 - k) last ∙ ap (leaf_of secret) leaf
+  ];
+}
+
+-- two runs of leaves, the later one first
+pub AreLeaves-both : (secret : TreeSecret) (from low high : ℕ) (values rest : List (List ℕ))
+    → AreLeaves secret (from + low) high values → AreLeaves secret from low rest
+    → AreLeaves secret from (low + high) (values ++ rest)
+AreLeaves-both secret from low high values rest later earlier = record {
+  count = omega (arith, length-append values rest, later.count, earlier.count);
+  each = λ k d lt. elim (cases_lt k low) [
+    | inl below ↦
+        let place : low + high - 1 - k - high ≡ low - 1 - k = omega arith in
+        get_or-append_right values rest high (low + high - 1 - k) d later.count (omega arith)
+        ∙ ap (λ (i : ℕ). get_or rest i d) place
+        ∙ earlier.each k d below
+    | inr above ↦
+        let inside : low + high - 1 - k < length values = omega (arith, later.count) in
+        let place : low + high - 1 - k ≡ high - 1 - (k - low) = omega arith in
+        let leaf : from + low + (k - low) ≡ from + k = omega arith in
+        get_or_append_left values rest d (low + high - 1 - k) inside
+        ∙ ap (λ (i : ℕ). get_or values i d) place
+        ∙ later.each (k - low) d (omega arith)
+        ∙ ap (leaf_of secret) leaf
+  ];
+}
+
+-- all leaves of a tree
+pub KeepsFrom-leaves : (secret : TreeSecret) (values : List (List ℕ)) → AreLeaves secret 0 (2 ^ secret.height) values
+    → KeepsFrom (2 ^ secret.height) secret values
 unfolding node_of
-KeepsFrom-leaf secret q nodes kept =
-    KeepsFrom-more secret (2 ^ secret.height + q) nodes (leaf_of secret q) kept
-    (λ n at.
-    let bottom : n ≡ 0 = IsNodeAt-leaf secret.height n _ at (omega arith) in
-    let leaf : q ≡ 2 ^ secret.height + q - 2 ^ secret.height = omega arith in
-    rw bottom (ap (leaf_of secret) leaf))
+KeepsFrom-leaves secret values leaves = record {
+  count = omega (arith, leaves.count);
+  each = λ n r d at le.
+      let bottom : n ≡ 0 = IsNodeAt-leaf secret.height n r at le in
+      let last = IsNodeAt-small secret.height n r at in
+      let q = r - 2 ^ secret.height in
+      let place : place_of secret r ≡ 2 ^ secret.height - 1 - q = omega (arith, last) in
+      let leaf : 0 + q ≡ q = omega arith in
+      rw bottom
+      (ap (λ (i : ℕ). get_or values i d) place ∙ leaves.each q d (omega (arith, last)) ∙ ap (leaf_of secret) leaf);
+}
 
 -- inner node r, over its children among the nodes
 pub inner-is : (secret : TreeSecret) (r : ℕ) (nodes : List (List ℕ)) → KeepsFrom (r + 1) secret nodes → 0 < r

@@ -1,8 +1,8 @@
 //! The nodes of a tree, computed once and kept.
 
-ghost use Rattle.std.specs.Prelude.{◌≡◌, ℕ, [], ◌+◌, ◌-◌, ◌*◌, ◌^◌, ◌<◌, IsTrue, IfOk, OnOk};
+ghost use Rattle.std.specs.Prelude.{◌≡◌, ℕ, [], ◌+◌, ◌-◌, ◌*◌, ◌^◌, ◌<◌, ◌≤◌, IsTrue, IfOk, OnOk};
 ghost use Rattle.sz_lms.specs.Lms.{inner_node};
-ghost use Rattle.sz_lms_tree.specs.Kept.{IsKept, KeepsFrom, place_of};
+ghost use Rattle.sz_lms_tree.specs.Kept.{AreLeaves, IsKept, KeepsFrom, place_of};
 ghost use Rattle.sz_lms_tree.specs.Places.{IsNodeAt};
 ghost use Rattle.sz_lms_tree.specs.Tree.{is_height, is_width, node_of};
 ghost use Rattle.sz_lms_tree.specs.View.{tree_secret};
@@ -42,23 +42,30 @@ fn parent(nodes: &[[u8; 32]], secret: &Secret, r: u32) -> [u8; 32]
     hashed_children(&secret.id, r, left, right)
 }
 
-// Puts the leaves last, from the last one down.
-fn push_leaves(nodes: &mut Vec<[u8; 32]>, secret: &Secret) -> Result<(), OutOfMemory>
+/// Puts the leaves from one on and before another last, the last one first.
+pub(crate) fn push_leaves(
+    nodes: &mut Vec<[u8; 32]>,
+    secret: &Secret,
+    from: u32,
+    end: u32,
+) -> Result<(), OutOfMemory>
     requires height { IsTrue (is_height secret.now.height) }
     requires width { IsTrue (is_width secret.now.width) }
     requires empty { nodes.old.items ≡ [] }
-    ensures { OnOk result (KeepsFrom (2 ^ secret.now.height) (tree_secret secret.now) nodes.new.items) }
+    requires ordered { from ≤ end }
+    requires within { end ≤ 2 ^ secret.now.height }
+    ensures { OnOk result (AreLeaves (tree_secret secret.now) from (end - from) nodes.new.items) }
 {
-    for q in (0..secret.leaf_count()).rev() {
+    for q in (from..end).rev() {
         nodes.push(leaf(secret, q))?;
     }
     Ok(())
 }
 
-// Puts the nodes above the leaves last, down to the root, which is node 1.
-fn push_inner(nodes: &mut Vec<[u8; 32]>, secret: &Secret) -> Result<(), OutOfMemory>
+/// Puts the nodes above the leaves last, down to the root, which is node 1.
+pub(crate) fn push_inner(nodes: &mut Vec<[u8; 32]>, secret: &Secret) -> Result<(), OutOfMemory>
     requires height { IsTrue (is_height secret.now.height) }
-    requires leaves { KeepsFrom (2 ^ secret.now.height) (tree_secret secret.now) nodes.old.items }
+    requires leaves { AreLeaves (tree_secret secret.now) 0 (2 ^ secret.now.height) nodes.old.items }
     ensures { OnOk result (KeepsFrom 1 (tree_secret secret.now) nodes.new.items) }
 {
     for r in (1..secret.leaf_count()).rev() {
@@ -74,7 +81,7 @@ pub(crate) fn kept_nodes(alloc: Global, secret: &Secret) -> Result<Vec<[u8; 32]>
     ensures { IfOk result (λ nodes. IsKept (tree_secret secret.now) nodes.items) }
 {
     let mut nodes = Vec::with_capacity(alloc, 2 * secret.leaf_count() as usize - 1)?;
-    push_leaves(&mut nodes, secret)?;
+    push_leaves(&mut nodes, secret, 0, secret.leaf_count())?;
     push_inner(&mut nodes, secret)?;
     Ok(nodes)
 }

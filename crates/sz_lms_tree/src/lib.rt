@@ -3,8 +3,10 @@
 #![tactic(auto)]
 
 mod gate;
+mod halves;
 mod kept;
 mod nodes;
+mod public;
 mod secrets;
 mod signing;
 #[cfg(test)]

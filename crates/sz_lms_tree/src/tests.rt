@@ -1,15 +1,19 @@
 //! Trees against what other software made of the same secrets: its roots, and its signatures as their SHA-256.
 
-ghost use Rattle.std.specs.Prelude.{◌^◌, ◌<◌, IsTrue};
+ghost use Rattle.std.specs.Prelude.{◌≡◌, ◌^◌, ◌<◌, IsTrue};
 ghost use Rattle.sz_lms_tree.specs.Tree.{is_height, is_width};
+ghost use Rattle.sz_lms_tree.specs.View.{tree_secret};
 
 use crate::{Gate, OpenGate, Part, Secret, Tree, child, leaf, root};
 use sha2::{Digest, Sha256};
 use std::alloc::Global;
 use std::process::Abort;
+use std::sync::atomic::{AtomicBool, AtomicU64, Ordering};
 use std::test::Fail;
+use std::thread::Threads;
 
-// Leaf `q` of the secret's tree signs the message with bytes of this digest, and the tree has this root.
+// Leaf `q` of the secret's tree signs the message with bytes of this digest, and the tree has this root. The tree of ten
+// levels is built in halves.
 #[derive(Drop)]
 struct Row {
     shows: &'static str,
@@ -23,8 +27,9 @@ struct Row {
     ghost is_leaf: { q < 2 ^ secret.height },
 }
 
-fn signs(rt: &impl Abort, alloc: Global, row: &Row) -> Result<(), Fail> {
-    let tree = Tree::build(alloc, &row.secret)?;
+fn signs(rt: &impl Abort, alloc: Global, tree: &Tree, row: &Row) -> Result<(), Fail>
+    requires { tree.now ≡ tree_secret row.now.secret }
+{
     assert_eq!(rt; tree.root(), row.root, "the root at {}", row.shows);
     let signed = tree.sign_leaf(alloc, row.q, row.message)?;
     let digest = Sha256::digest(signed.as_slice());
@@ -102,7 +107,8 @@ fn roots_and_signatures(rt: HostRuntime) -> Result<(), Fail> {
         },
     ];
     for row in &rows[..] {
-        signs(&rt, rt.alloc(), row)?;
+        let tree = Tree::build(rt.alloc(), &row.secret)?;
+        signs(&rt, rt.alloc(), &tree, row)?;
     }
     Ok(())
 }
@@ -122,7 +128,8 @@ fn ten_levels(rt: HostRuntime) -> Result<(), Fail> {
         root: *b"\xb1\x45\x66\x32\x3d\x76\xe7\x94\x06\x9a\x03\xcc\xe2\xfd\x87\x02\x96\xa4\x5f\x73\xb9\x17\x09\xe1\xaa\xc5\x6d\x2e\x7f\x08\x2a\x9c",
         signature: *b"\xa4\x19\xc9\x4b\xcd\x58\xdb\x68\x47\x88\x96\xeb\x35\x96\x02\x3e\x3c\x59\x43\xf0\xab\x5e\x46\x24\x1c\xc3\xf0\x8a\x6a\x36\x21\x84",
     };
-    signs(&rt, rt.alloc(), &row)
+    let tree = Tree::build_halves(&rt, &OpenGate, rt.alloc(), &row.secret)?;
+    signs(&rt, rt.alloc(), &tree, &row)
 }
 
 // The sibling of leaf 0 stands first in the path of what leaf 0 signs.
@@ -162,4 +169,84 @@ fn child_below_a_leaf(rt: HostRuntime) {
         root(&lower),
         *b"\x15\x30\x9d\x5c\x9b\xda\x72\xa8\x34\x13\x26\x63\x31\xce\x49\x45\x75\x62\x56\x4c\x49\x0b\x60\xcb\xe0\x35\x8a\xfd\x43\x01\x9f\x60"
     );
+}
+
+// A secret of seed and identifier bytes that are all the same.
+fn plain(height: u8, width: u8) -> Secret
+    ensures height { result.height ≡ height }
+    ensures width { result.width ≡ width }
+{
+    Secret {
+        seed: [0x01; 32],
+        id: [0x11; 16],
+        height,
+        width,
+    }
+}
+
+// A gate at which the first job waits until a second one has come.
+#[derive(Drop)]
+struct Meeting {
+    entered: AtomicU64,
+    met: AtomicBool,
+}
+
+fn no_job_yet() -> Meeting {
+    Meeting {
+        entered: AtomicU64::new(0),
+        met: AtomicBool::new(false),
+    }
+}
+
+impl Gate for Meeting {
+    fn enter(&self, _: Part) {
+        if self.entered.fetch_add(1, Ordering::SeqCst) > 0 {
+            return;
+        }
+        for _ in 0..1_000_000_000u32 {
+            if self.entered.load(Ordering::SeqCst) > 1 {
+                self.met.store(true, Ordering::SeqCst);
+                return;
+            }
+        }
+    }
+}
+
+// The nodes are those of the whole tree, and so many halves begin, of which two meet.
+fn halves_meet<R: Threads + Abort + Sync>(
+    rt: &R,
+    alloc: Global,
+    secret: &Secret,
+    halves: u64,
+) -> Result<(), Fail>
+    requires height { IsTrue (is_height secret.now.height) }
+    requires width { IsTrue (is_width secret.now.width) }
+{
+    let gate = no_job_yet();
+    let tree = Tree::build_halves(rt, &gate, alloc, secret)?;
+    assert_eq!(rt; gate.entered.load(Ordering::SeqCst), halves);
+    assert_eq!(rt; gate.met.load(Ordering::SeqCst), halves > 0);
+    let whole = Tree::build(alloc, secret)?;
+    assert!(rt; whole.nodes() == tree.nodes(), "the nodes");
+    assert!(rt;
+        tree.is_of(secret) && !tree.is_of(&plain(15, 1)),
+        "of its secret alone"
+    );
+    let public = tree.public();
+    assert!(rt; public.starts_with(b"\x00\x00\x00"), "a type");
+    assert!(rt; public.ends_with(&tree.root()), "the root");
+    assert_eq!(rt; tree.height(), secret.height);
+    assert!(rt; tree.child(3, 5, 8) == child(secret, 3, 5, 8), "a child");
+    Ok(())
+}
+
+// The first is one subtree, which is not halved. The other has 32 of them, for which 31 pairs of halves begin.
+#[test]
+fn halves_of_one_subtree(rt: HostRuntime) -> Result<(), Fail> {
+    halves_meet(&rt, rt.alloc(), &plain(5, 8), 0)
+}
+
+#[test]
+fn halves_of_many_subtrees(rt: HostRuntime) -> Result<(), Fail> {
+    halves_meet(&rt, rt.alloc(), &plain(10, 1), 62)
 }

@@ -1,14 +1,15 @@
 use Rattle.std.proofs.Common.{◌≡◌, ℕ, ◌+◌, ◌-◌, arith, subst, sym, pow_pos}
 use Rattle.sz_lms_tree.specs.Kept.{KeepsFrom}
 use Rattle.sz_lms_tree.specs.View.{tree_secret}
-use Rattle.sz_lms_tree.proofs.Keeping.{KeepsFrom-more}
+use Rattle.sz_lms_tree.proofs.Keeping.{KeepsFrom-leaves, KeepsFrom-more}
 use Rattle.sz_lms_tree.proofs.kept.push_inner.Goals as goal
 
 pub loop-r-init : goal.loop-r-init
 loop-r-init c =
     let secret = tree_secret c.args.secret.now in
     record {
-      kept = subst (λ (n : ℕ). KeepsFrom n secret c.args.nodes.now.items) (sym c.leaf_count-r.ensures) c.requires.leaves;
+      kept = subst (λ (n : ℕ). KeepsFrom n secret c.args.nodes.now.items) (sym c.leaf_count-r.ensures)
+          (KeepsFrom-leaves secret c.args.nodes.now.items c.requires.leaves);
       positive = omega (arith, pow_pos secret.height);
       inner = omega arith;
     }
