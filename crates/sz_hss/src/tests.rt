@@ -1,0 +1,188 @@
+//! Keys against what other software made of the same secrets, and the stored form with its wrong bytes.
+
+use crate::{BadKey, Level, Levels, StoredKey, Trees, read, spell};
+use sha2::{Digest, Sha256};
+use std::alloc::Global;
+use std::process::Abort;
+use std::sync::atomic::{AtomicU64, Ordering};
+use std::test::Fail;
+use std::thread::Threads;
+use sz_base::{Bytes, Messages};
+use sz_lms_tree::{Gate, OpenGate, Part};
+
+// A stored key of two levels, 5/4 and 5/8, whose next leaf number is 45.
+const TWO: [u8; 70] =
+    *b"\x01\x02\x05\x04\x05\x08\xbf\x4d\xd9\xc4\x46\x51\xf9\x07\x18\xe8\xa7\x3b\x12\x06\x4b\xd7\xf6\x98\x54\xff\xf4\xcd\xc9\x88\x4c\x0f\xb9\xf3\xc6\xae\x18\xc3\x3c\xf1\x85\x12\xdc\x9e\xbc\x1e\x41\x09\x74\xd8\xf1\x0e\x3c\xac\0\0\0\0\0\0\0\x2d\0\0\0\0\0\0\x04\0";
+
+// The key that is stored so signs the message with its next leaf number, with bytes of this digest.
+#[derive(Drop)]
+struct Row {
+    stored: &'static [u8],
+    message: &'static [u8],
+    public: [u8; 60],
+    signature: [u8; 32],
+}
+
+fn signs<R: Threads + Abort + Sync>(rt: &R, alloc: Global, row: &Row) -> Result<(), Fail> {
+    let StoredKey { key, next, end } = read(row.stored)?;
+    assert_eq!(rt; spell(&key, next, end).as_slice(), row.stored);
+    let mut trees = Trees::build(rt, &OpenGate, alloc, key)?;
+    assert!(rt; trees.public() == row.public, "the public key");
+    let signature = trees.sign(rt, &OpenGate, alloc, next, row.message)?;
+    assert_eq!(rt; Sha256::digest(signature.as_slice()), row.signature);
+    Ok(())
+}
+
+#[test]
+fn signatures_of_one_to_three_levels(rt: HostRuntime) -> Result<(), Fail> {
+    let rows = [
+        Row {
+            stored: b"\x01\x01\x05\x08\xb7\x33\xf1\xde\x71\x78\xd2\x89\x1e\xfc\x1e\x94\x1e\x8f\xdc\x43\xa0\xda\x2f\x6d\xd0\x8b\x89\x2d\xf6\xf2\xa8\x82\xdc\x3d\x33\x61\xf7\xa8\x8c\xd9\x51\xaf\x03\x7f\x17\xb2\xa0\xf7\xf1\x42\x99\x88\0\0\0\0\0\0\0\x1f\0\0\0\0\0\0\0\x20",
+            message: b"message of one-h5w8-last\n",
+            public: *b"\x00\x00\x00\x01\x00\x00\x00\x05\x00\x00\x00\x04\xf7\xa8\x8c\xd9\x51\xaf\x03\x7f\x17\xb2\xa0\xf7\xf1\x42\x99\x88\x67\xa4\x78\xea\x5a\xd0\x55\x7f\x70\xd1\xee\xee\x79\x1c\x2e\x6f\x46\x99\x9a\x32\x71\xb8\xff\x0f\x00\xa5\xec\x48\x00\xdb\x29\xd2",
+            signature: *b"\xb2\x6a\xc6\x3b\x67\x9d\xed\x16\x4d\x79\xfe\x46\x92\xe6\x5a\xf8\xba\x9f\x81\xe9\x46\x1c\xcd\xe7\xd2\x49\x90\xda\xca\x5a\xa9\xb0",
+        },
+        Row {
+            stored: &TWO,
+            message: b"message of two-h5w4-h5w8\n",
+            public: *b"\x00\x00\x00\x02\x00\x00\x00\x05\x00\x00\x00\x03\x3c\xf1\x85\x12\xdc\x9e\xbc\x1e\x41\x09\x74\xd8\xf1\x0e\x3c\xac\x0d\x8f\x9a\x4d\x8a\xf7\x05\x90\x34\x5b\x5d\xa0\x30\x04\xfa\x9e\x59\x08\xe8\x50\xd6\x8b\x57\x16\x7d\x7d\xfd\xd3\xc1\xcc\xe2\xd7",
+            signature: *b"\x73\x82\x50\x74\xcd\x10\x70\x99\x8f\x7b\xb5\xc2\xb0\x04\x23\x7f\xaa\x8f\x59\xce\x1a\x54\xd3\x23\xf5\x17\x43\x64\x5c\xb4\xf9\x2c",
+        },
+        Row {
+            stored: b"\x01\x03\x05\x08\x05\x08\x05\x08\x13\x53\xcc\x75\xf8\x16\xb5\x7d\x90\x90\x30\x49\xdf\x11\xb0\xa4\x3f\x35\x04\xbb\x0d\x43\xa0\xd5\xc8\x99\x6a\x4b\x1e\x3e\xa0\xac\x83\xf0\x9d\xa6\x48\xe9\x57\xb0\xa6\x00\x92\xb5\x78\xdc\x79\xcf\0\0\0\0\0\0\x04\x21\0\0\0\0\0\0\x80\0",
+            message: b"message of three-h5w8\n",
+            public: *b"\x00\x00\x00\x03\x00\x00\x00\x05\x00\x00\x00\x04\x83\xf0\x9d\xa6\x48\xe9\x57\xb0\xa6\x00\x92\xb5\x78\xdc\x79\xcf\xf8\x4b\x6d\x5b\x35\x8b\xa1\xe7\x01\x87\x87\x69\x41\x57\xee\x7d\xa8\x8a\x23\x82\xc0\x59\x0c\xff\x25\xb7\x20\x3e\xbd\xe2\x76\xb0",
+            signature: *b"\x0c\xa2\x28\xc2\x1d\x0f\x40\xad\xa2\x09\x6a\xf2\xf0\x70\xd2\x9f\xb8\x1b\x87\xd8\x40\x8e\xa6\x5c\xe8\x8d\x0b\x6a\x2e\x9a\x07\x3c",
+        },
+    ];
+    for row in &rows[..] {
+        signs(&rt, rt.alloc(), row)?;
+    }
+    Ok(())
+}
+
+// Each place with another byte there, and what is then wrong.
+#[test]
+fn wrong_bytes(rt: HostRuntime) {
+    let rows = [
+        (0, 2, BadKey { place: 0, value: 2 }),
+        (1, 4, BadKey { place: 1, value: 4 }),
+        (2, 6, BadKey { place: 2, value: 6 }),
+        (5, 3, BadKey { place: 5, value: 3 }),
+        (
+            1,
+            1,
+            BadKey {
+                place: 52,
+                value: 0x3c,
+            },
+        ),
+        (
+            60,
+            4,
+            BadKey {
+                place: 54,
+                value: 0,
+            },
+        ),
+        (
+            68,
+            5,
+            BadKey {
+                place: 62,
+                value: 0,
+            },
+        ),
+    ];
+    for (place, byte, wrong) in rows {
+        let mut bytes = TWO;
+        assert!(rt; place < bytes.len(), "inside");
+        bytes[place] = byte;
+        assert!(rt; read(&bytes).err() == Some(wrong), "at {place}");
+    }
+    let early = BadKey {
+        place: 69,
+        value: 0,
+    };
+    assert!(rt; read(&TWO[..69]).err() == Some(early), "ends early");
+    let mut longer = [7; 71];
+    longer[..70].copy_from_slice(&TWO);
+    let rest = BadKey {
+        place: 70,
+        value: 7,
+    };
+    assert!(rt; read(&longer).err() == Some(rest), "a byte follows");
+}
+
+#[test]
+fn levels_that_a_key_may_have(rt: HostRuntime) {
+    let five = Level {
+        height: 5,
+        width: 4,
+    };
+    let high = Level {
+        height: 20,
+        width: 4,
+    };
+    assert!(rt; Levels::from_slice(&[five, five, five]).is_some(), "three");
+    assert!(rt;
+        Levels::from_slice(&[five, five, five, five]).is_none(),
+        "four"
+    );
+    assert!(rt; Levels::from_slice(&[]).is_none(), "none");
+    assert!(rt;
+        Levels::from_slice(&[five, high]).is_none(),
+        "a height that no tree has"
+    );
+}
+
+// A gate at which the first item waits until a second one has come. It counts items, and those that waited in vain.
+#[derive(Drop)]
+struct Together {
+    items: AtomicU64,
+    alone: AtomicU64,
+}
+
+impl Gate for Together {
+    fn enter(&self, part: Part) {
+        if part != Part::Item || self.items.fetch_add(1, Ordering::SeqCst) > 0 {
+            return;
+        }
+        for _ in 0..1_000_000_000u32 {
+            if self.items.load(Ordering::SeqCst) > 1 {
+                return;
+            }
+        }
+        self.alone.fetch_add(1, Ordering::SeqCst);
+    }
+}
+
+// A batch of 40 messages from leaf number 20 of a key of the levels 5/4 and 5/4: it crosses from one lowest tree to the
+// next.
+#[test]
+fn batch_is_each_by_itself(rt: HostRuntime) -> Result<(), Fail> {
+    let mut bytes = TWO;
+    bytes[5] = 4;
+    let StoredKey {
+        key,
+        next: _,
+        end: _,
+    } = read(&bytes)?;
+    let mut trees = Trees::build(&rt, &OpenGate, rt.alloc(), key)?;
+    let mut messages = Messages::create(rt.alloc());
+    for n in 0..40u8 {
+        messages.push(Bytes::from_slice(rt.alloc(), &[n])?)?;
+    }
+    assert!(rt; messages.len() == 40);
+    let gate = Together {
+        items: AtomicU64::new(0),
+        alone: AtomicU64::new(0),
+    };
+    let batch = trees.sign_batch(&rt, &gate, rt.alloc(), 20, &messages)?;
+    assert!(rt; gate.items.load(Ordering::SeqCst) == 40 && gate.alone.load(Ordering::SeqCst) == 0);
+    for (signed, n) in batch.as_slice().iter().zip(0..40u8) {
+        let one = trees.sign(&rt, &OpenGate, rt.alloc(), 20 + u64::from(n), &[n])?;
+        assert_eq!(rt; signed.as_slice(), one.as_slice(), "item {n}");
+    }
+    Ok(())
+}
