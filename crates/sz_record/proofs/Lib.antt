@@ -1,0 +1,9 @@
+mod Anchors
+mod Appending
+mod Faults
+mod Fields
+mod Numbers
+mod Once
+mod Parts
+mod Told
+mod Totals
