@@ -1,0 +1,12 @@
+pub mod Elements
+pub mod SetBits
+pub mod InSets
+pub mod Standing
+pub mod Told
+pub mod Clears
+pub mod Least
+pub mod Rows
+pub mod Verified
+pub mod Climbing
+pub mod Reading
+pub mod Issued
