@@ -1,0 +1,16 @@
+use Rattle.std.proofs.Common.{List, subst}
+use Rattle.sz_cms.specs.Message as message
+use Rattle.sz_path.specs.Sets.{AreAt}
+use Rattle.sz_chain.specs.Places.{FitsOne}
+use Rattle.sz_chain.proofs.OneSigner.{all_signers, fits_step}
+use Rattle.sz_chain.proofs.signers.fitting_places.Goals as goal
+
+pub loop-signer-preserved : goal.loop-signer-preserved
+loop-signer-preserved c =
+    fits_step c.args.signers.now c.loop-signer.signer-index _ c.loop-signer-test.true c.args.places.now c.loop-signer.fitting c.places_where.result
+    c.or-fitting.result c.or-fitting.ensures c.loop-signer.invariant c.places_where.ensures
+
+pub returns : goal.returns
+returns c =
+    subst (λ (s : List message.Signer). AreAt c.args.places.now (λ _. FitsOne s) c.loop-signer.fitting)
+    (all_signers c.args.signers.now c.loop-signer.signer-index c.loop-signer-test.false) c.loop-signer.invariant

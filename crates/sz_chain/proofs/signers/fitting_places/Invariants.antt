@@ -1,0 +1,8 @@
+use Rattle.std.proofs.Common.{map, take}
+use Rattle.sz_cms.specs.View.{signer_of}
+use Rattle.sz_path.specs.Sets.{AreAt}
+use Rattle.sz_chain.specs.Places.{FitsOne}
+use Rattle.sz_chain.proofs.signers.fitting_places.Given as goal
+
+abbrev pub invariant-loop-signer : goal.invariant-loop-signer
+invariant-loop-signer l = AreAt l.places (λ _. FitsOne (map signer_of (take l.signer-index l.signers))) l.fitting

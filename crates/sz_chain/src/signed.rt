@@ -1,0 +1,97 @@
+//! Whether a message is signed under a chain of certificates.
+
+ghost use Rattle.std.specs.Prelude.{◌≡◌, ◌≤◌, ◌<◌, ℕ, List, length, map, None, Some, IfErr, IfOk, IsErrAnd, IsOkAnd, MatchOption, MatchResult};
+ghost use Rattle.std.specs.Option.{option_copied};
+ghost use Rattle.sz_chain.specs.Places.{AreFitting};
+ghost use Rattle.sz_chain.specs.SignedBy.{HasSigner, IsRefused, SignedBy};
+ghost use Rattle.sz_chain.specs.declared.fault.ChainFault.{ChainFault};
+ghost use Rattle.sz_chain.specs.declared.fault.ChainFault.TheVariants.{NoChain};
+ghost use Rattle.sz_cms.specs.Message as message;
+ghost use Rattle.sz_cms.specs.View.{signed_of, signer_of};
+ghost use Rattle.sz_path.specs.Places.{ArePlaces};
+
+use crate::signers::{fitting_places, fitting_signers, verified_places};
+use crate::{Bag, ChainFault, CrlBag, Why};
+use sz_base::Seconds;
+use sz_cms::{Signed, Signer};
+use sz_path::{Place, is_chained, links_of, places_of};
+
+/// The content of a message that one of its signers signed to whom a chain of at most eight certificates of the bag
+/// leads down from one of the anchors, at the time, and with these revocation lists where there are any; and else what
+/// is missing. A certificate or a list that does not read counts for nothing. Takes no memory.
+pub fn signed_by<'a>(
+    signed: &Signed<'a>,
+    bag: &Bag<'a>,
+    anchors: &Bag<'a>,
+    crls: Option<&CrlBag<'a>>,
+    when: Seconds,
+) -> Result<&'a [u8], ChainFault>
+    ensures ok { IfOk result (λ content. SignedBy (signed_of signed.entry.now) bag.entry.now anchors.entry.now
+        (option_copied crls.entry) when.0 content.now) }
+    ensures only { (content : List ℕ) → SignedBy (signed_of signed.entry.now) bag.entry.now anchors.entry.now
+        (option_copied crls.entry) when.0 content → IsOkAnd result (λ found. found.now ≡ content) }
+    ensures fault { IfErr result (λ fault. IsRefused (signed_of signed.entry.now) bag.entry.now anchors.entry.now
+        (option_copied crls.entry) when.0 fault) }
+    ensures only_fault { (fault : ChainFault) → IsRefused (signed_of signed.entry.now) bag.entry.now anchors.entry.now
+        (option_copied crls.entry) when.0 fault → IsErrAnd result (λ found. found ≡ fault) }
+{
+    let Some(content) = content_of(signed) else {
+        return Err(ChainFault::NoSigner);
+    };
+    let signers = fitting_signers(signed, content);
+    if signers.is_empty() {
+        return Err(ChainFault::BadDigest);
+    }
+    let places = places_of(anchors, bag);
+    match check_chain(signers.as_slice(), content, places.as_slice(), crls, when) {
+        Ok(()) => Ok(content),
+        Err(why) => Err(ChainFault::NoChain { why }),
+    }
+}
+
+// The content, where there is a signer too.
+fn content_of<'a>(signed: &Signed<'a>) -> Option<&'a [u8]>
+    ensures { MatchOption result (HasSigner (signed_of signed.entry.now) → ⊥)
+        (λ content. HasSigner (signed_of signed.entry.now)
+        × ((signed_of signed.entry.now).content ≡ Some content.now)) }
+{
+    if signed.signers.is_empty() {
+        return None;
+    }
+    signed.content
+}
+
+// Whether a chain leads to one of the signers, whose digests fit.
+fn check_chain(
+    signers: &[Signer<'_>],
+    content: &[u8],
+    places: &[Place<'_>],
+    crls: Option<&CrlBag<'_>>,
+    when: Seconds,
+) -> Result<(), Why>
+    requires few { length places.now ≤ 64 }
+    requires some { 0 < length signers.now }
+    ensures { (signed : message.Signed) (bag anchors : List (List ℕ))
+        → signed.content ≡ Some content.now
+        → AreFitting signed content.now (map signer_of signers.now)
+        → ArePlaces anchors bag places.now
+        → MatchResult result
+        (λ _. SignedBy signed bag anchors (option_copied crls.entry) when.0 content.now)
+        (λ why. IsRefused signed bag anchors (option_copied crls.entry) when.0 (NoChain why)) }
+{
+    if fitting_places(places, signers).is_empty() {
+        return Err(Why::NoCandidate);
+    }
+    let verified = verified_places(places, signers, content);
+    if verified.is_empty() {
+        return Err(Why::Signature);
+    }
+    let links = links_of(places, when);
+    if !is_chained(places, links.as_slice(), verified, None, when) {
+        return Err(Why::Path);
+    }
+    if !is_chained(places, links.as_slice(), verified, crls, when) {
+        return Err(Why::Revoked);
+    }
+    Ok(())
+}
