@@ -5,7 +5,7 @@ use Rattle.std.proofs.lemmas.List.{take_more, get_or_at}
 use Rattle.std.proofs.lemmas.List.Elements.{filter_map-append, All-push}
 use Rattle.std.proofs.lemmas.Slice.Eq.{bytes_eq-Decides}
 use Rattle.std.specs.Str.{bytes_eq, str_to_ascii_lowercase}
-use Rattle.std.specs.List.{filter_map, cons_option}
+use Rattle.std.specs.List.{cons_option}
 use Rattle.sz_body.specs.Framing.{FieldList, value_if, values}
 
 one_value : (found : Option (List ℕ)) → cons_option found [] ≡ option_to_list found

@@ -1,5 +1,5 @@
 -- A head stays one whatever follows it, and so does what was taken of it.
-use Rattle.std.proofs.Common.{◌⊎◌, ℕ, List, [], ◌++◌, length, sym, ap, ◌∙◌, subst, arith, append_assoc, length-append, inl, inr, Result}
+use Rattle.std.proofs.Common.{◌⊎◌, ℕ, List, [], ◌++◌, sym, ap, ◌∙◌, subst, arith, append_assoc, length-append, inl, inr, Result}
 use Rattle.httparse.proofs.GrammarLemmas.{ReadsRequest-append, ReadsResponse-append, ReadsSection-append}
 use Rattle.sz_head.specs.declared.kind.Kind.{Kind}
 use Rattle.sz_head.specs.declared.kind.Kind.TheVariants.{Request, Reply, Trailer}

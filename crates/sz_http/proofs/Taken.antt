@@ -1,5 +1,5 @@
 -- What the answers on a piece say.
-use Rattle.std.proofs.Common.{◌≡◌, ◌≢◌, ◌⊎◌, ℕ, ◌+◌, ◌≤◌, Bool, true, false, List, [], ◌++◌, length, take, drop, take_all, refl, sym, ap, ◌∙◌, subst, arith, append_assoc, append-nil, length-append, length-take, take-append-drop, inl, inr, Option, Some, None, IfSome, IfNone, Result, Ok, Err}
+use Rattle.std.proofs.Common.{◌≡◌, ◌⊎◌, ℕ, ◌+◌, ◌≤◌, Bool, true, false, List, [], ◌++◌, length, take, drop, take_all, refl, sym, ap, ◌∙◌, subst, arith, append_assoc, append-nil, length-append, length-take, take-append-drop, inl, inr, Option, Some, None, IfSome, IfNone, Result, Ok, Err}
 use Rattle.std.proofs.lemmas.Bool.{cases_Bool, false≢true}
 use Rattle.std.proofs.Math.Seq.{take-append_seam}
 use Rattle.sz_chunked.proofs.Parts.{nothing_part}
@@ -27,7 +27,7 @@ use Rattle.sz_http.specs.declared.reading.Stage.{Stage}
 use Rattle.sz_http.specs.declared.reading.Stage.TheVariants.{InHead, Counted, Chunked, UntilEnd, Done, Failed}
 use Rattle.sz_http.specs.Message.{kind_of, BeginsWith, IsFramed, IsBody, IsBodyOf, HasBody}
 use Rattle.sz_http.specs.Reading.{HasTakenHead, Stands, Takes, Took, Refuses, Enters}
-use Rattle.sz_http.specs.Verdict.{needs_more, done_with, refused, Verdict, IsRefused}
+use Rattle.sz_http.specs.Verdict.{needs_more, done_with, Verdict, IsRefused}
 use Rattle.sz_http.proofs.Steps.{IsGoing, more_of, done_of, IsKept, takes_framed}
 
 -- ---- the body so far

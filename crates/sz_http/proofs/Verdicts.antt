@@ -1,5 +1,5 @@
 -- Verdicts that stand, and what the end of the stream makes of one that needs more.
-use Rattle.std.proofs.Common.{◌≢◌, ℕ, ◌+◌, Bool, true, false, List, [], ◌∷◌, ◌++◌, length, refl, ap, ◌∙◌, arith, append_assoc, length-append, inl, inr, Ok, Err}
+use Rattle.std.proofs.Common.{ℕ, Bool, false, List, [], ◌∷◌, ◌++◌, refl, ap, ◌∙◌, arith, append_assoc, length-append, inl, inr, Ok, Err}
 use Rattle.std.proofs.lemmas.Bool.{false≢true}
 use Rattle.sz_head.specs.Head.{HasNoHead}
 use Rattle.sz_body.specs.declared.framing.Framing.{Framing}

@@ -1,7 +1,6 @@
 use Rattle.std.proofs.Common.{ℕ, List, [], ◌++◌, take, inl, inr, refl, sym, subst, append-nil, arith}
 use Rattle.std.proofs.lemmas.Bool.{false≢true}
 use Rattle.sz_chunked.specs.declared.place.Place.{Place}
-use Rattle.sz_chunked.specs.declared.place.Place.TheVariants.{Whole}
 use Rattle.sz_chunked.specs.Reading.{Came, Takes}
 use Rattle.sz_chunked.proofs.Feeding.{framing_otherwise}
 use Rattle.sz_chunked.proofs.Parts.{part_of}
