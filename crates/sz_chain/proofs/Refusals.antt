@@ -3,7 +3,8 @@ use Rattle.std.proofs.Common.{◌≡◌, ◌≤◌, ◌<◌, ◌⊎◌, ◌-◌,
 use Rattle.std.proofs.lemmas.Bool.{cases_eq, cases_order}
 use Rattle.std.specs.List.{AllByRecursion}
 use Rattle.sz_cms.specs.Message.{Signed}
-use Rattle.sz_path.specs.Chain.{AreLinked, IsIn, lowest}
+use Rattle.sz_path.specs.Chain.{IsIn, lowest}
+use Rattle.sz_path.proofs.Unlisted.{without_lists}
 use Rattle.sz_x509.specs.Certificate.{Certificate}
 use Rattle.sz_chain.specs.SignedBy.{HasCandidate, HasFitting, HasSigner, HasVerified, IsRefused, IsSigned, SignedBy}
 use Rattle.sz_chain.specs.declared.fault.ChainFault.{ChainFault}
@@ -11,14 +12,9 @@ use Rattle.sz_chain.specs.declared.fault.ChainFault.TheVariants as fault
 use Rattle.sz_chain.specs.declared.fault.Why.TheVariants as why
 
 module _ (signed : Signed) (bag anchors : List (List ℕ)) (crls : Option (List (List ℕ))) (when : ℤ) where
-  unlisted : (certs : List Certificate) (anchor : Certificate) → AreLinked crls when certs anchor → AreLinked None when certs anchor
-  unlisted [] anchor links = tt
-  unlisted (cert ∷ above) anchor links =
-      (record { named = links.0.named; signed = links.0.signed; cleared = tt }, unlisted above anchor links.1)
-
   -- a chain that lists clear is one without lists
-  without_lists : IsSigned signed bag anchors crls when → IsSigned signed bag anchors None when
-  without_lists (content, is) = (
+  signed_without_lists : IsSigned signed bag anchors crls when → IsSigned signed bag anchors None when
+  signed_without_lists (content, is) = (
     content,
     record {
       has_content = is.has_content;
@@ -28,12 +24,7 @@ module _ (signed : Signed) (bag anchors : List (List ℕ)) (crls : Option (List 
       anchor = is.anchor;
       in_bag = is.in_bag;
       is_anchor = is.is_anchor;
-      chain = record {
-        few = is.chain.few;
-        signs = is.chain.signs;
-        issuers = is.chain.issuers;
-        links = unlisted is.certs is.anchor is.chain.links;
-      };
+      chain = without_lists crls when is.certs is.anchor is.chain;
       fits = is.fits;
       verifies = is.verifies;
     },
@@ -81,7 +72,7 @@ module _ (signed : Signed) (bag anchors : List (List ℕ)) (crls : Option (List 
     fits = is.fits;
   }
   less (suc (suc (suc zero))) is = verified_from is
-  less (suc (suc (suc (suc zero)))) is = without_lists is
+  less (suc (suc (suc (suc zero)))) is = signed_without_lists is
   less (suc (suc (suc (suc (suc n))))) is = is
 
   down : (n m : ℕ) → n ≤ m → Has m → Has n

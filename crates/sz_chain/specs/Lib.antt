@@ -1,3 +1,4 @@
 pub mod Signers
 pub mod SignedBy
 pub mod Places
+pub mod Printed

@@ -1,11 +1,11 @@
 //! Whether a message is signed under a chain of certificates.
 
-ghost use Rattle.std.specs.Prelude.{◌≡◌, ◌≤◌, ◌<◌, ℕ, List, length, map, None, Some, IfErr, IfOk, IsErrAnd, IsOkAnd, MatchOption, MatchResult};
+ghost use Rattle.std.specs.Prelude.{◌≡◌, ◌<◌, ℕ, List, length, map, None, Some, IfErr, IfOk, IsErrAnd, IsOkAnd, MatchOption, MatchResult};
 ghost use Rattle.std.specs.Option.{option_copied};
 ghost use Rattle.sz_chain.specs.Places.{AreFitting};
 ghost use Rattle.sz_chain.specs.SignedBy.{HasSigner, IsRefused, SignedBy};
 ghost use Rattle.sz_chain.specs.declared.fault.ChainFault.{ChainFault};
-ghost use Rattle.sz_chain.specs.declared.fault.ChainFault.TheVariants.{NoChain};
+ghost use Rattle.sz_chain.specs.declared.fault.ChainFault.TheVariants as refusal;
 ghost use Rattle.sz_cms.specs.Message as message;
 ghost use Rattle.sz_cms.specs.View.{signed_of, signer_of};
 ghost use Rattle.sz_path.specs.Places.{ArePlaces};
@@ -14,7 +14,7 @@ use crate::signers::{fitting_places, fitting_signers, verified_places};
 use crate::{Bag, ChainFault, CrlBag, Why};
 use sz_base::Seconds;
 use sz_cms::{Signed, Signer};
-use sz_path::{Place, is_chained, links_of, places_of};
+use sz_path::{NoChain, Places, find_chain, places_of};
 
 /// The content of a message that one of its signers signed to whom a chain of at most eight certificates of the bag
 /// leads down from one of the anchors, at the time, and with these revocation lists where there are any; and else what
@@ -43,7 +43,7 @@ pub fn signed_by<'a>(
         return Err(ChainFault::BadDigest);
     }
     let places = places_of(anchors, bag);
-    match check_chain(signers.as_slice(), content, places.as_slice(), crls, when) {
+    match check_chain(signers.as_slice(), content, &places, crls, when) {
         Ok(()) => Ok(content),
         Err(why) => Err(ChainFault::NoChain { why }),
     }
@@ -65,19 +65,18 @@ fn content_of<'a>(signed: &Signed<'a>) -> Option<&'a [u8]>
 fn check_chain(
     signers: &[Signer<'_>],
     content: &[u8],
-    places: &[Place<'_>],
+    places: &Places<'_>,
     crls: Option<&CrlBag<'_>>,
     when: Seconds,
 ) -> Result<(), Why>
-    requires few { length places.now ≤ 64 }
-    requires some { 0 < length signers.now }
+    requires { 0 < length signers.now }
     ensures { (signed : message.Signed) (bag anchors : List (List ℕ))
         → signed.content ≡ Some content.now
         → AreFitting signed content.now (map signer_of signers.now)
-        → ArePlaces anchors bag places.now
+        → ArePlaces anchors bag places.now.items
         → MatchResult result
         (λ _. SignedBy signed bag anchors (option_copied crls.entry) when.0 content.now)
-        (λ why. IsRefused signed bag anchors (option_copied crls.entry) when.0 (NoChain why)) }
+        (λ why. IsRefused signed bag anchors (option_copied crls.entry) when.0 (refusal.NoChain why)) }
 {
     if fitting_places(places, signers).is_empty() {
         return Err(Why::NoCandidate);
@@ -86,12 +85,9 @@ fn check_chain(
     if verified.is_empty() {
         return Err(Why::Signature);
     }
-    let links = links_of(places, when);
-    if !is_chained(places, links.as_slice(), verified, None, when) {
-        return Err(Why::Path);
+    match find_chain(places, verified, crls, when) {
+        Ok(()) => Ok(()),
+        Err(NoChain::Path) => Err(Why::Path),
+        Err(NoChain::Revoked) => Err(Why::Revoked),
     }
-    if !is_chained(places, links.as_slice(), verified, crls, when) {
-        return Err(Why::Revoked);
-    }
-    Ok(())
 }

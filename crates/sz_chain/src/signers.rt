@@ -1,6 +1,6 @@
 //! The signers whose digest fits, and the certificates that fit them.
 
-ghost use Rattle.std.specs.Prelude.{◌≡◌, ◌↔◌, ◌≤◌, length, map, Some, IsTrue};
+ghost use Rattle.std.specs.Prelude.{◌≡◌, ◌↔◌, map, Some, IsTrue};
 ghost use Rattle.std.specs.Option.{option_copied};
 ghost use Rattle.sz_chain.specs.Places.{AreFitting, FitsOne, VerifiesOne};
 ghost use Rattle.sz_chain.specs.Signers.{Fits, Verifies};
@@ -10,7 +10,7 @@ ghost use Rattle.sz_x509.specs.View.{view};
 
 use arrayvec::ArrayVec;
 use sz_cms::{Identifier, MOST_SIGNERS, Signed, Signer};
-use sz_path::{Place, PlaceSet, Test, places_where, verifying};
+use sz_path::{Place, PlaceSet, Places, Test, select, select_verifying};
 use sz_x509::Cert;
 
 /// The signers whose digest is that of the content.
@@ -30,13 +30,12 @@ pub(crate) fn fitting_signers<'a>(
 }
 
 /// The places whose certificates fit one of the signers.
-pub(crate) fn fitting_places(places: &[Place<'_>], signers: &[Signer<'_>]) -> PlaceSet
-    requires { length places.now ≤ 64 }
-    ensures { AreAt places.now (λ _. FitsOne (map signer_of signers.now)) result }
+pub(crate) fn fitting_places(places: &Places<'_>, signers: &[Signer<'_>]) -> PlaceSet
+    ensures { AreAt places.now.items (λ _. FitsOne (map signer_of signers.now)) result }
 {
     let mut fitting = PlaceSet::empty();
     for signer in signers {
-        fitting = fitting.or(places_where(places, &FitsSigner { signer: *signer }));
+        fitting = fitting.or(select(places, &FitsSigner { signer: *signer }));
     }
     fitting
 }
@@ -44,12 +43,11 @@ pub(crate) fn fitting_places(places: &[Place<'_>], signers: &[Signer<'_>]) -> Pl
 /// The places whose certificates fit one of the signers and verify its signature. A signature is verified once at most
 /// under each key.
 pub(crate) fn verified_places(
-    places: &[Place<'_>],
+    places: &Places<'_>,
     signers: &[Signer<'_>],
     content: &[u8],
 ) -> PlaceSet
-    requires { length places.now ≤ 64 }
-    ensures { AreAt places.now (λ _. VerifiesOne (map signer_of signers.now) content.now) result }
+    ensures { AreAt places.now.items (λ _. VerifiesOne (map signer_of signers.now) content.now) result }
 {
     let mut verified = PlaceSet::empty();
     for signer in signers {
@@ -59,13 +57,12 @@ pub(crate) fn verified_places(
 }
 
 // The places whose certificates fit the signer and verify its signature.
-fn verified_by(places: &[Place<'_>], signer: &Signer<'_>, content: &[u8]) -> PlaceSet
-    requires { length places.now ≤ 64 }
-    ensures { AreAt places.now (λ _ place. Fits (names_of signer.now.identifier) (view place.cert)
+fn verified_by(places: &Places<'_>, signer: &Signer<'_>, content: &[u8]) -> PlaceSet
+    ensures { AreAt places.now.items (λ _ place. Fits (names_of signer.now.identifier) (view place.cert)
         × Verifies (signer_of signer.now) content.now (view place.cert)) result }
 {
-    let fitting = places_where(places, &FitsSigner { signer: *signer });
-    verifying(places, fitting, &signer.covered(content), signer.signature)
+    let fitting = select(places, &FitsSigner { signer: *signer });
+    select_verifying(places, fitting, &signer.covered(content), signer.signature)
 }
 
 // The test for a certificate that fits the signer.

@@ -24,7 +24,42 @@ struct Made {
     ca: bool,
     path_len: Option<u32>,
     until: i64,
+    change: Option<Change>,
 }
+
+// A byte behind two others, and what is put in its place before the certificate is signed.
+#[derive(Clone, Copy)]
+struct Change {
+    behind: [u8; 2],
+    from: u8,
+    to: u8,
+}
+
+// Critical name constraints (RFC 5280 section 4.2.1.10) in the place of key usage, by the identifiers' last numbers.
+const NAME_CONSTRAINTS: Change = Change {
+    behind: [0x55, 0x1d],
+    from: 15,
+    to: 30,
+};
+
+// Critical certificate policies, which restrict nothing here, in the same place.
+const POLICIES: Change = Change {
+    to: 32,
+    ..NAME_CONSTRAINTS
+};
+
+// An authority's key usage without that for certificates.
+const SIGNS_NO_CERTS: Change = Change {
+    behind: [2, 1],
+    from: 0b1000_0110,
+    to: 0b1000_0010,
+};
+
+// An authority's key usage without that for messages.
+const SIGNS_NO_MESSAGES: Change = Change {
+    to: 0b0000_0110,
+    ..SIGNS_NO_CERTS
+};
 
 const ROOT: Made = Made {
     subject: b'R',
@@ -34,6 +69,7 @@ const ROOT: Made = Made {
     ca: true,
     path_len: None,
     until: 1000,
+    change: None,
 };
 
 const MIDDLE: Made = Made {
@@ -44,6 +80,7 @@ const MIDDLE: Made = Made {
     ca: true,
     path_len: None,
     until: 1000,
+    change: None,
 };
 
 const OWNER: Made = Made {
@@ -54,6 +91,7 @@ const OWNER: Made = Made {
     ca: false,
     path_len: None,
     until: 1000,
+    change: None,
 };
 
 // A message that this signer is to have signed with a key, the anchor, the time, and what is answered.
@@ -139,9 +177,24 @@ fn cert(alloc: Global, keys: &Keys, made: &Made) -> Result<Bytes, Fail> {
     if !is_writable(spec.not_before) || !is_writable(spec.not_after) {
         return Err("a time that cannot be written".into());
     }
-    let tbs = write_tbs(alloc, &spec)?;
+    let mut tbs = write_tbs(alloc, &spec)?;
+    if let Some(change) = made.change {
+        tbs = changed(alloc, tbs.as_slice(), change)?;
+    }
     let signature = keys.signature(alloc, made.by, tbs.as_slice())?;
     Ok(write_cert(alloc, tbs.as_slice(), signature.as_slice())?)
+}
+
+// The bytes with this change.
+fn changed(alloc: Global, bytes: &[u8], change: Change) -> Result<Bytes, Fail> {
+    let mut copy = Bytes::create(alloc);
+    let mut behind = [0, 0];
+    for byte in bytes {
+        let is_meant = behind == change.behind && *byte == change.from;
+        copy.push(if is_meant { change.to } else { *byte })?;
+        behind = [behind[1], *byte];
+    }
+    Ok(copy)
 }
 
 // The revocation list.
@@ -255,22 +308,19 @@ fn chains_that_are_found(rt: HostRuntime) -> Result<(), Fail> {
     let alloc = rt.alloc();
     let keys = keys_made(alloc)?;
     let found = owners(None);
-    let with_other_key = Made { key: 4, ..MIDDLE };
     let last = Made {
         until: 500,
         ..MIDDLE
     };
-    answers(&rt, alloc, &keys, "a chain", &[OWNER, MIDDLE], found)?;
-    answers(
-        &rt,
-        alloc,
-        &keys,
-        "the issuer first",
-        &[MIDDLE, OWNER],
-        found,
-    )?;
-    answers(&rt, alloc, &keys, "the last second", &[OWNER, last], found)?;
-    let two = [with_other_key, OWNER, MIDDLE];
+    for (shows, made) in [
+        ("a chain", [OWNER, MIDDLE]),
+        ("the issuer first", [MIDDLE, OWNER]),
+        ("the last second", [OWNER, last]),
+        ("critical policies", [OWNER, with(POLICIES, MIDDLE)]),
+    ] {
+        answers(&rt, alloc, &keys, shows, &made, found)?;
+    }
+    let two = [Made { key: 4, ..MIDDLE }, OWNER, MIDDLE];
     answers(&rt, alloc, &keys, "two of one name", &two, found)
 }
 
@@ -279,15 +329,11 @@ fn rules_that_alone_fail(rt: HostRuntime) -> Result<(), Fail> {
     let alloc = rt.alloc();
     let keys = keys_made(alloc)?;
     let path = owners(Some(Why::Path));
-    let by_other = Made { by: 4, ..MIDDLE };
     let of_other = Made {
         issuer: b'X',
         ..MIDDLE
     };
-    let no_authority = Made {
-        ca: false,
-        ..MIDDLE
-    };
+    let by_other = Made { by: 4, ..MIDDLE };
     let over = Made {
         until: 499,
         ..MIDDLE
@@ -296,58 +342,82 @@ fn rules_that_alone_fail(rt: HostRuntime) -> Result<(), Fail> {
         until: 499,
         ..OWNER
     };
-    answers(&rt, alloc, &keys, "no issuer", &[OWNER], path)?;
-    answers(&rt, alloc, &keys, "another name", &[OWNER, of_other], path)?;
-    answers(&rt, alloc, &keys, "another key", &[OWNER, by_other], path)?;
-    answers(
-        &rt,
-        alloc,
-        &keys,
-        "no authority",
-        &[OWNER, no_authority],
-        path,
-    )?;
-    answers(
-        &rt,
-        alloc,
-        &keys,
-        "an issuer that is over",
-        &[OWNER, over],
-        path,
-    )?;
-    answers(
-        &rt,
-        alloc,
-        &keys,
-        "an owner that is over",
-        &[owner_over, MIDDLE],
-        path,
-    )?;
+    for (shows, made) in [
+        ("no issuer", [OWNER, OWNER]),
+        ("another name", [OWNER, of_other]),
+        ("another key", [OWNER, by_other]),
+        ("an issuer that is over", [OWNER, over]),
+        ("an owner that is over", [owner_over, MIDDLE]),
+    ] {
+        answers(&rt, alloc, &keys, shows, &made, path)?;
+    }
+    Ok(())
+}
+
+// The certificate with this change.
+fn with(change: Change, made: Made) -> Made {
+    Made {
+        change: Some(change),
+        ..made
+    }
+}
+
+#[test]
+fn extensions_that_alone_fail(rt: HostRuntime) -> Result<(), Fail> {
+    let alloc = rt.alloc();
+    let keys = keys_made(alloc)?;
+    let path = owners(Some(Why::Path));
+    let no_authority = Made {
+        ca: false,
+        ..MIDDLE
+    };
+    let owner_too = Made { ca: true, ..OWNER };
+    let constrained = with(NAME_CONSTRAINTS, MIDDLE);
+    for (shows, made) in [
+        ("no authority", [OWNER, no_authority]),
+        (
+            "no key for certificates",
+            [OWNER, with(SIGNS_NO_CERTS, MIDDLE)],
+        ),
+        (
+            "no key for messages",
+            [with(SIGNS_NO_MESSAGES, owner_too), MIDDLE],
+        ),
+        ("critical name constraints", [OWNER, constrained]),
+    ] {
+        answers(&rt, alloc, &keys, shows, &made, path)?;
+    }
+    Ok(())
+}
+
+#[test]
+fn signers_that_fail(rt: HostRuntime) -> Result<(), Fail> {
+    let alloc = rt.alloc();
+    let keys = keys_made(alloc)?;
+    let path = owners(Some(Why::Path));
+    let both = [OWNER, MIDDLE];
     let other_root = Case {
         anchor: Made { key: 4, ..ROOT },
         ..path
     };
-    answers(
-        &rt,
-        alloc,
-        &keys,
-        "another root",
-        &[OWNER, MIDDLE],
-        other_root,
-    )?;
-    let no_owner = owners(Some(Why::NoCandidate));
-    answers(&rt, alloc, &keys, "no owner", &[MIDDLE], no_owner)?;
+    answers(&rt, alloc, &keys, "another root", &both, other_root)?;
+    let early = Case { when: 99, ..path };
+    answers(&rt, alloc, &keys, "before the first second", &both, early)?;
     let by_other_key = Case {
         by: 4,
         ..owners(Some(Why::Signature))
     };
+    answers(&rt, alloc, &keys, "another key signed", &both, by_other_key)?;
+    let none = owners(Some(Why::NoCandidate));
+    answers(&rt, alloc, &keys, "no owner", &[MIDDLE], none)?;
+    let made = [with(NAME_CONSTRAINTS, OWNER), MIDDLE];
     answers(
         &rt,
         alloc,
         &keys,
-        "another key signed",
-        &[OWNER, MIDDLE],
-        by_other_key,
+        "an owner with critical name constraints",
+        &made,
+        none,
     )
 }
 

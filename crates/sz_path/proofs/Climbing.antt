@@ -1,13 +1,13 @@
 -- Chains of certificates and ways of the search: where there is one there is the other.
-use Rattle.std.proofs.Common.{◌≡◌, ◌≤◌, ◌⊎◌, ◌+◌, ℕ, zero, suc, ℤ, Bool, true, false, cond, List, [], ◌∷◌, length, Option, Some, None, refl, sym, ap, ◌∙◌, subst, inl, inr, arith}
-use Rattle.std.proofs.lemmas.Bool.{true≢false, false≢true}
+use Rattle.std.proofs.Common.{◌≡◌, ◌≤◌, ◌⊎◌, ◌+◌, ℕ, zero, suc, ℤ, Bool, true, false, cond, List, [], ◌∷◌, length, Option, None, refl, sym, ap, ◌∙◌, subst, inl, inr, arith}
+use Rattle.std.proofs.lemmas.Bool.{true≢false}
 use Rattle.std.specs.List.{AllByRecursion}
 use Rattle.sz_x509.specs.Certificate.{Certificate}
 use Rattle.sz_x509.specs.View.{view}
-use Rattle.sz_path.specs.Chain.{AreIssuers, AreLinked, Chain, counts, IsAuthority, IsIssuedBy, IsWithin, lowest, MaySign, most_certs, next_issuer, one_if}
+use Rattle.sz_path.specs.Chain.{AreIssuers, AreLinked, Chain, counts, IsAuthority, IsIssuedBy, IsValidAt, IsWithin, lowest, MaySign, most_certs, one_if}
 use Rattle.sz_path.specs.Issuer.{anchor_of, Issuer, issuer_of}
 use Rattle.sz_path.specs.Places.{issuer_at, Stands}
-use Rattle.sz_path.specs.Search.{Arrives, Climbs, HasWay, IsReachedFrom, Reaches}
+use Rattle.sz_path.specs.Search.{Arrives, Climbs, HasWay, Reaches}
 use Rattle.sz_path.specs.Sets.{At, has}
 use Rattle.sz_path.specs.Ways.{AreNodes, IsChained, is_none, IsNodeOf, IsStep}
 use Rattle.sz_path.specs.declared.node.Node.{Node}
@@ -38,12 +38,12 @@ module _ (crls : Option (List (List ℕ))) (when : ℤ) (signers : PlaceSet) (pl
   -- ---- from a chain to a way
 
   -- a certificate is issued by what stands at a place, so its node has that place among its issuers
-  step_up : (lower upper : Place) (issuer : Issuer) → lower.is_anchor ≡ false → issuer_at upper ≡ issuer →
+  step_up : (lower upper : Place) (issuer : Issuer) → lower.is_anchor ≡ false → IsValidAt when (view lower.cert) → issuer_at upper ≡ issuer →
       (upper.is_anchor ≡ true) ⊎ IsAuthority when (view upper.cert) → IsIssuedBy crls when issuer (view lower.cert) → IsStep crls when lower upper
-  step_up lower upper issuer kind same may is =
+  step_up lower upper issuer kind valid same may is =
       let by : IsIssuedBy crls when (issuer_at upper) (view lower.cert) =
       subst (λ (i : Issuer). IsIssuedBy crls when i (view lower.cert)) (sym same) is in record {
-        link = record { no_anchor = kind; names = record { named = by.named; may_issue = may }; signed = by.signed };
+        link = record { no_anchor = kind; valid = valid; names = record { named = by.named; may_issue = may }; signed = by.signed };
         cleared = by.cleared;
       }
 
@@ -79,13 +79,14 @@ module _ (crls : Option (List (List ℕ))) (when : ℤ) (signers : PlaceSet) (pl
   })
 
   climb : (anchor : Certificate) → Stands places true anchor → (above : List Certificate) (n k at : ℕ) (place : Place) (cert : Certificate) →
-      At places at place → place.is_anchor ≡ false → view place.cert ≡ cert → Reaches nodes n k at → AreLinked crls when (cert ∷ above) anchor →
+      At places at place → place.is_anchor ≡ false → IsValidAt when (view place.cert) → view place.cert ≡ cert → Reaches nodes n k at →
+      AreLinked crls when (cert ∷ above) anchor →
       AreIssuers when k above → AllByRecursion (Stands places false) above → (m : ℕ) × (m ≡ n + 1 + length above) × Arrives nodes m
-  climb anchor stands [] n k at place cert here kind is reached links issuers among =
+  climb anchor stands [] n k at place cert here kind valid is reached links issuers among =
       let low = node_at at place here in
       let high = node_at stands.at stands.place stands.is_at in
       let issued = subst (λ (c : Certificate). IsIssuedBy crls when (anchor_of anchor) c) (sym is) links.0 in
-      let step = step_up place stands.place (anchor_of anchor) kind (as_anchor stands.place anchor stands.kind stands.is_cert) (inl stands.kind) issued in
+      let step = step_up place stands.place (anchor_of anchor) kind valid (as_anchor stands.place anchor stands.kind stands.is_cert) (inl stands.kind) issued in
       let within = no_limit stands.place high.0.limit k stands.kind high.1.is.limit in (
         suc n,
         omega arith,
@@ -98,19 +99,19 @@ module _ (crls : Option (List (List ℕ))) (when : ℤ) (signers : PlaceSet) (pl
           reached = on n k at stands.at place stands.place low.0 high.0 cert low.1 high.1 reached step within;
         },
       )
-  climb anchor stands (issuer ∷ above) n k at place cert here kind is reached links issuers among =
+  climb anchor stands (issuer ∷ above) n k at place cert here kind valid is reached links issuers among =
       let here' = among.0 in
       let low = node_at at place here in
       let high = node_at here'.at here'.place here'.is_at in
       let issued = subst (λ (c : Certificate). IsIssuedBy crls when (issuer_of issuer) c) (sym is) links.0 in
       let may = subst (λ (c : Certificate). IsAuthority when c) (sym here'.is_cert) issuers.0 in
-      let step = step_up place here'.place (issuer_of issuer) kind (as_issuer here'.place issuer here'.kind here'.is_cert) (inr may) issued in
+      let step = step_up place here'.place (issuer_of issuer) kind valid (as_issuer here'.place issuer here'.kind here'.is_cert) (inr may) issued in
       let limit = has_limit here'.place issuer high.0.limit here'.kind here'.is_cert high.1.is.limit in
       let within = subst (λ (l : Option ℕ). IsWithin l k) (sym limit) issuers.1 in
       let counted : high.0.is_counted ≡ counts issuer = high.1.is.counted ∙ ap counts here'.is_cert in
       let reached' = on n k at here'.at place here'.place low.0 high.0 cert low.1 high.1 reached step within in
       let reached'' = subst (λ (b : Bool). Reaches nodes (suc n) (k + one_if b) here'.at) counted reached' in
-      let rest = climb anchor stands above (suc n) (k + one_if (counts issuer)) here'.at here'.place issuer here'.is_at here'.kind here'.is_cert
+      let rest = climb anchor stands above (suc n) (k + one_if (counts issuer)) here'.at here'.place issuer here'.is_at here'.kind may.valid here'.is_cert
       reached'' links.1 issuers.2 among.1 in
       (rest.0, omega (arith, rest.1), rest.2)
 
@@ -143,7 +144,8 @@ module _ (crls : Option (List (List ℕ))) (when : ℤ) (signers : PlaceSet) (pl
   way_of (cert ∷ above) anchor at signer here in_set is kind among stands chain =
       let low = node_at at signer here in
       let signs = subst (λ (c : Certificate). MaySign when c) (sym is) chain.signs in
-      let rest = climb anchor stands above 0 0 at signer cert here kind is (start_at at signer low.0 low.1 in_set signs) chain.links chain.issuers among.1 in
+      let begun = start_at at signer low.0 low.1 in_set signs in
+      let rest = climb anchor stands above 0 0 at signer cert here kind signs.valid is begun chain.links chain.issuers among.1 in
       (rest.0, omega (arith, rest.1, chain.few), rest.2)
 
   pub way_from_chain : IsChained crls when signers places → HasWay nodes

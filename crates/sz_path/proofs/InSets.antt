@@ -1,5 +1,5 @@
 -- Sets of places that grow with a loop over a list.
-use Rattle.std.proofs.Common.{◌≡◌, ◌<◌, ◌⊎◌, ◌||◌, ◌==◌, ◌+◌, ℕ, true, false, true≢false, List, length, refl, sym, ap, ◌∙◌, inl, inr, arith, subst, eqb-true, eq-eqb}
+use Rattle.std.proofs.Common.{◌≡◌, ◌⊎◌, ◌||◌, ◌==◌, ◌+◌, ℕ, false, true≢false, List, length, sym, ◌∙◌, inl, inr, arith, subst, eqb-true, eq-eqb}
 use Rattle.std.proofs.lemmas.Bool.{cases_eq, or_cases, or_left, or_right}
 use Rattle.sz_path.specs.Sets.{AreAt, AreFirst, At, has}
 use Rattle.sz_path.specs.declared.set.PlaceSet.{PlaceSet}

@@ -1,11 +1,11 @@
 -- Links, lists and nodes, place by place.
-use Rattle.std.proofs.Common.{◌≡◌, ◌↔◌, ◌≤ℤ◌, ◌<◌, ◌+◌, ◌++◌, ◌⊎◌, ℕ, ℤ, Bool, true, false, true≢false, cond, List, [], ◌∷◌, length, get_or, Option, None, Some, refl, sym, ap, ◌∙◌, subst, inl, inr, arith}
+use Rattle.std.proofs.Common.{◌≡◌, ◌↔◌, ◌≤ℤ◌, ◌<◌, ◌+◌, ◌++◌, ℕ, ℤ, Bool, true, false, true≢false, cond, List, [], ◌∷◌, length, get_or, Option, None, Some, refl, sym, ◌∙◌, subst, inl, inr, arith}
 use Rattle.sz_lms.specs.Hss.{HssOk}
 use Rattle.sz_x509.specs.CrlView.{list_view}
 use Rattle.sz_x509.specs.RevocationList.{AreEntries, CrlOf, is_listed, IsRevoked, RevocationList}
 use Rattle.sz_x509.specs.View.{view}
 use Rattle.sz_x509.specs.declared.crl.Crl.{Crl}
-use Rattle.sz_path.specs.Chain.{counts, MaySign}
+use Rattle.sz_path.specs.Chain.{counts, IsValidAt, MaySign}
 use Rattle.sz_path.specs.Cleared.{IsCurrent, IsNotOver, IsRevokedBy}
 use Rattle.sz_path.specs.Issuer.{MayUse}
 use Rattle.sz_path.specs.Links.{AreLinks, IsLink, NamesIssuer}
@@ -59,10 +59,10 @@ ok_along key other tbs more signature last e f g ok =
 -- ---- links
 
 pub links_are : (when : ℤ) (places : List Place) (cert : Place) (named set : PlaceSet) → cert.is_anchor ≡ false →
-    AreAt places (λ _ issuer. NamesIssuer when cert issuer) named →
+    IsValidAt when (view cert.cert) → AreAt places (λ _ issuer. NamesIssuer when cert issuer) named →
     AreAt places (λ at issuer. (has named at ≡ true) × HssOk issuer.cert.key.now cert.cert.tbs.now cert.cert.signature.now) set →
     AreAt places (λ _. IsLink when cert) set
-links_are when places cert named set kind names verified place = (
+links_are when places cert named set kind valid names verified place = (
   λ e.
       let told = (verified place).0 e in
       let name = (names place).0 told.2.0 in (
@@ -70,6 +70,7 @@ links_are when places cert named set kind names verified place = (
         told.1,
         record {
           no_anchor = kind;
+          valid = valid;
           names = subst (λ (p : Place). NamesIssuer when cert p) (at_one places place name.0 told.0 name.1 told.1) name.2;
           signed = ok_along _ _ _ _ _ _ (sym (key_of told.0)) (sym (tbs_of cert)) (sym (signature_of cert)) told.2.1;
         },
@@ -90,7 +91,9 @@ pub links_more : (when : ℤ) (places : List Place) (links new : List PlaceSet) 
     (at : ℕ) (issuers : PlaceSet) → At new at issuers → (cert : Place) → At places at cert → AreAt places (λ _. IsLink when cert) issuers
 links_more when places links new n d set within len are e each =
     grows (λ at issuers. (cert : Place) → At places at cert → AreAt places (λ _. IsLink when cert) issuers) links new n set e len each
-    (λ cert here. subst (λ (c : Place). AreAt places (λ _. IsLink when c) set) (at_one places n (get_or places n d) cert (at_default places n d within) here) are)
+    (λ cert here.
+    let same = at_one places n (get_or places n d) cert (at_default places n d within) here in
+    subst (λ (c : Place). AreAt places (λ _. IsLink when c) set) same are)
 
 -- ---- lists
 

@@ -10,3 +10,4 @@ pub mod Verified
 pub mod Climbing
 pub mod Reading
 pub mod Issued
+pub mod Unlisted

@@ -1,5 +1,5 @@
 -- Strings one after another that are read as certificates or lists, as a loop over references to them goes.
-use Rattle.std.proofs.Common.{◌≡◌, ◌≤◌, ◌<◌, ◌+◌, ◌++◌, ℕ, ℤ, Bool, true, false, List, [], ◌∷◌, length, get_or, map, take, Bor, refl, sym, ap, ◌∙◌, subst, arith, append_assoc, length-append}
+use Rattle.std.proofs.Common.{◌≡◌, ◌≤◌, ◌<◌, ◌+◌, ◌++◌, ℕ, ℤ, Bool, true, false, List, [], ◌∷◌, length, get_or, map, take, Bor, sym, ap, ◌∙◌, subst, arith, append_assoc, length-append}
 use Rattle.std.proofs.lemmas.List.{map_more, take_all}
 use Rattle.sz_x509.specs.Certificate.{Certificate, CertOf}
 use Rattle.sz_x509.specs.CrlView.{list_view}

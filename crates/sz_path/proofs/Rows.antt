@@ -4,7 +4,7 @@ use Rattle.std.proofs.lemmas.Bool.{false≢true, cases_Bool, cases_eq}
 use Rattle.std.specs.Bool.{then_some}
 use Rattle.sz_path.specs.Chain.{IsWithin, most_certs, one_if}
 use Rattle.sz_path.specs.Search.{AreFew, Arrives, Climbs, HasAnchor, HasWay, IsBegun, IsLeast, IsOffered, IsReachedFrom, IsRow, lesser, Reaches}
-use Rattle.sz_path.specs.Sets.{At, has}
+use Rattle.sz_path.specs.Sets.{At}
 use Rattle.sz_path.specs.declared.node.Node.{Node}
 use Rattle.sz_path.proofs.Elements.{at_default, at_one, at_some, at_within, grows}
 use Rattle.sz_path.proofs.Least.{least_by, least_either, least_same}

@@ -1,5 +1,5 @@
 -- Certificates at places, and what they issue by.
-use Rattle.std.proofs.Common.{◌≡◌, ◌⊎◌, ◌≤◌, ◌+◌, ◌++◌, ℕ, Bool, true, false, cond, List, [], ◌∷◌, length, Option, None, Contains, refl, sym, ap, ◌∙◌, subst, inl, inr, arith}
+use Rattle.std.proofs.Common.{◌≡◌, ◌++◌, ℕ, Bool, true, false, cond, List, [], ◌∷◌, length, None, sym, ap, ◌∙◌, subst, inl, inr, arith}
 use Rattle.std.proofs.lemmas.List.Elements.{Contains-append_left, Contains-push, Contains-push_cases}
 use Rattle.std.proofs.lemmas.Option.{none-some}
 use Rattle.sz_x509.specs.Certificate.{Certificate, CertOf}
@@ -7,7 +7,6 @@ use Rattle.sz_x509.specs.View.{view}
 use Rattle.sz_path.specs.Chain.{IsIn}
 use Rattle.sz_path.specs.Issuer.{anchor_of, Issuer, issuer_of}
 use Rattle.sz_path.specs.Places.{AreOf, ArePlaces, issuer_at, Stands}
-use Rattle.sz_path.specs.Sets.{At}
 use Rattle.sz_path.specs.declared.place.Place.{Place}
 use Rattle.sz_path.proofs.Elements.{at_cases, at_either, at_last, at_left, at_right}
 

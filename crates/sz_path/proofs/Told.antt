@@ -1,5 +1,5 @@
 -- Revocation lists that read, one string after another, and what they clear.
-use Rattle.std.proofs.Common.{◌≡◌, ◌↔◌, ◌<◌, ◌++◌, ℕ, ℤ, true, List, [], ◌∷◌, length, Option, Some, None, Contains, refl, sym, ap, ◌∙◌, subst, inl, inr, arith}
+use Rattle.std.proofs.Common.{◌≡◌, ◌↔◌, ◌<◌, ◌++◌, ℕ, ℤ, true, List, [], ◌∷◌, length, Some, None, refl, sym, subst, inl, inr, arith}
 use Rattle.std.proofs.lemmas.List.Elements.{Contains-append_left, Contains-push, Contains-push_cases}
 use Rattle.std.proofs.lemmas.Option.{none-some}
 use Rattle.sz_x509.specs.Certificate.{Certificate}
@@ -7,7 +7,6 @@ use Rattle.sz_x509.specs.CrlView.{list_view}
 use Rattle.sz_x509.specs.RevocationList.{CrlOf, RevocationList}
 use Rattle.sz_x509.specs.View.{view}
 use Rattle.sz_path.specs.Cleared.{IsAmong, IsCleared, IsCurrent, IsRevokedBy}
-use Rattle.sz_path.specs.Issuer.{Issuer}
 use Rattle.sz_path.specs.Links.{AreLinks, IsLink}
 use Rattle.sz_path.specs.Lists.{AreLists, AreRead, ClearAt, IsOneOf, IsTold}
 use Rattle.sz_path.specs.Places.{issuer_at}

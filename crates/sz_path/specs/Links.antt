@@ -2,7 +2,7 @@
 use Rattle.std.specs.Prelude.{◌≡◌, ◌⊎◌, ℕ, ℤ, true, false, List, length}
 use Rattle.sz_lms.specs.Hss.{HssOk}
 use Rattle.sz_x509.specs.View.{view}
-use Rattle.sz_path.specs.Chain.{IsAuthority}
+use Rattle.sz_path.specs.Chain.{IsAuthority, IsValidAt}
 use Rattle.sz_path.specs.Places.{issuer_at}
 use Rattle.sz_path.specs.Sets.{AreAt, At}
 use Rattle.sz_path.specs.declared.place.Place.{Place}
@@ -13,9 +13,10 @@ pub record NamesIssuer (when : ℤ) (cert issuer : Place) : Type 0 where
   pub named : (view cert.cert).issuer ≡ (issuer_at issuer).name
   pub may_issue : (issuer.is_anchor ≡ true) ⊎ IsAuthority when (view issuer.cert)
 
--- the certificate, which is no anchor, names this issuer and is signed with its key
+-- the certificate, which is no anchor and is valid at the time, names this issuer and is signed with its key
 pub record IsLink (when : ℤ) (cert issuer : Place) : Type 0 where
   pub no_anchor : cert.is_anchor ≡ false
+  pub valid : IsValidAt when (view cert.cert)
   pub names : NamesIssuer when cert issuer
   pub signed : HssOk (issuer_at issuer).key (view cert.cert).tbs (view cert.cert).signature
 

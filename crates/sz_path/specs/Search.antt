@@ -5,7 +5,8 @@ use Rattle.sz_path.specs.Chain.{IsWithin, most_certs, one_if}
 use Rattle.sz_path.specs.Sets.{At, has}
 use Rattle.sz_path.specs.declared.node.Node.{Node}
 
--- a node that is reached with so many that count is issued by this one, which takes so many below it; then so many count
+-- a node that is reached with so many that count is issued by this one, which takes so many below it; then so many
+-- count
 pub record Climbs (lower : Node) (at : ℕ) (upper : Node) (before count : ℕ) : Type 0 where
   pub issued : has lower.issuers at ≡ true
   pub within : IsWithin upper.limit before

@@ -11,6 +11,8 @@ use Rattle.sz_path.specs.Sets.{AreAt, At, has}
 use Rattle.sz_path.specs.declared.node.Node.{Node}
 use Rattle.sz_path.specs.declared.place.Place.{Place}
 use Rattle.sz_path.specs.declared.set.PlaceSet.{PlaceSet}
+use Rattle.sz_path.specs.declared.way.NoChain.{NoChain}
+use Rattle.sz_path.specs.declared.way.NoChain.TheVariants.{Path, Revoked}
 
 -- the certificate is linked to this issuer, and cleared for it
 pub record IsStep (crls : Option (List (List ℕ))) (when : ℤ) (cert issuer : Place) : Type 0 where
@@ -46,7 +48,8 @@ is_none (cert ∷ above) = false
 
 -- from a certificate whose place is in the set a chain leads up to an anchor, over certificates at places; it is an
 -- anchor itself where the chain has no other
-pub record IsChained (crls : Option (List (List ℕ))) (when : ℤ) (signers : PlaceSet) (places : List Place) : Type 0 where
+pub record IsChained (crls : Option (List (List ℕ))) (when : ℤ) (signers : PlaceSet) (places : List Place)
+    : Type 0 where
   pub certs : List Certificate
   pub anchor : Certificate
   pub at : ℕ
@@ -58,3 +61,9 @@ pub record IsChained (crls : Option (List (List ℕ))) (when : ℤ) (signers : P
   pub are_certs : AllByRecursion (Stands places false) certs
   pub is_anchor : Stands places true anchor
   pub chain : Chain crls when certs anchor
+
+-- why no such chain leads up to an anchor: there is none even where no lists are asked, or there is only then one
+abbrev pub IsUnchained : Option (List (List ℕ)) → ℤ → PlaceSet → List Place → NoChain → Type 0
+IsUnchained crls when signers places Path = IsChained None when signers places → ⊥
+IsUnchained crls when signers places Revoked =
+    IsChained None when signers places × (IsChained crls when signers places → ⊥)

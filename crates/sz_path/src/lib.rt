@@ -2,7 +2,7 @@
 //! certificate of a bag issued which, which of them revocation lists clear, and whether a chain exists. No call takes
 //! memory.
 //!
-//! `Chain` of `specs/` says what a chain is: a property of each certificate, of each link and of its end. `is_chained`
+//! `Chain` of `specs/` says what a chain is: a property of each certificate, of each link and of its end. `find_chain`
 //! answers whether there is one for signers among the places of a bag, and finds it wherever it exists.
 #![tactic(auto)]
 
@@ -21,9 +21,8 @@ mod verify;
 mod way;
 
 pub use bag::{Bag, BagFull, CrlBag, MOST_CERTS, MOST_CRLS, Slices};
-pub use links::{Links, links_of};
 pub use place::{MOST_PLACES, Place, Places, places_of};
 pub use set::PlaceSet;
-pub use test_of::{Test, places_where};
-pub use verify::verifying;
-pub use way::is_chained;
+pub use test_of::{Test, select};
+pub use verify::select_verifying;
+pub use way::{NoChain, find_chain};

@@ -4,18 +4,21 @@ ghost use Rattle.std.specs.Prelude.{◌↔◌, ◌≤◌, length, IsTrue};
 ghost use Rattle.sz_path.specs.Links.{AreLinks, IsLink, NamesIssuer};
 ghost use Rattle.sz_path.specs.Sets.{AreAt};
 
-use crate::usage::is_authority;
-use crate::{MOST_PLACES, Place, PlaceSet, Test, places_where, verifying};
+use crate::test_of::places_where;
+use crate::usage::{is_authority, is_valid_at};
+use crate::verify::verifying;
+use crate::{MOST_PLACES, Place, PlaceSet, Test};
 use arrayvec::ArrayVec;
 use sz_base::Seconds;
 use sz_cms::Covered;
 
 /// The places of the issuers of each certificate, place by place.
-pub type Links = ArrayVec<PlaceSet, MOST_PLACES>;
+pub(crate) type Links = ArrayVec<PlaceSet, MOST_PLACES>;
 
-/// The certificates that issued each of these, path lengths and revocation lists aside. A signature is verified only
-/// under the keys of certificates that have the issuer's name and may issue at the time, once for each key.
-pub fn links_of(places: &[Place<'_>], when: Seconds) -> Links
+/// The certificates that issued each of these, path lengths and revocation lists aside. Only the signatures of
+/// certificates that are valid at the time are verified, and only under the keys of certificates that have the issuer's
+/// name and may issue at the time, once for each key.
+pub(crate) fn links_of(places: &[Place<'_>], when: Seconds) -> Links
     requires { length places.now ≤ 64 }
     ensures { AreLinks when.0 places.now result.items }
 {
@@ -26,12 +29,12 @@ pub fn links_of(places: &[Place<'_>], when: Seconds) -> Links
     links
 }
 
-// The places that issued the certificate.
+// The places that issued the certificate, if it is valid at the time.
 fn issuers_of(places: &[Place<'_>], cert: &Place<'_>, when: Seconds) -> PlaceSet
     requires { length places.now ≤ 64 }
     ensures { AreAt places.now (λ _. IsLink when.0 cert.now) result }
 {
-    if cert.is_anchor {
+    if cert.is_anchor || !is_valid_at(&cert.cert, when) {
         return PlaceSet::empty();
     }
     let named = places_where(places, &NamedBy { cert: *cert, when });

@@ -8,8 +8,10 @@ ghost use Rattle.sz_path.specs.Places.{issuer_at};
 ghost use Rattle.sz_path.specs.Sets.{AreAt};
 ghost use Rattle.sz_x509.specs.CrlView.{list_view};
 
+use crate::test_of::places_where;
 use crate::usage::{CRL_SIGN, is_not_over, may_use};
-use crate::{CrlBag, MOST_CRLS, Place, PlaceSet, Test, places_where, verifying};
+use crate::verify::verifying;
+use crate::{CrlBag, MOST_CRLS, Place, PlaceSet, Test};
 use arrayvec::ArrayVec;
 use sz_base::Seconds;
 use sz_cms::Covered;

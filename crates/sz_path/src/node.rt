@@ -8,9 +8,10 @@ ghost use Rattle.sz_path.specs.Sets.{has};
 ghost use Rattle.sz_path.specs.Ways.{AreNodes, AreSteps};
 ghost use Rattle.sz_x509.specs.View.{view};
 
+use crate::links::Links;
 use crate::lists::{CurrentList, clears};
 use crate::usage::may_sign;
-use crate::{Links, MOST_PLACES, Place, PlaceSet};
+use crate::{MOST_PLACES, Place, PlaceSet};
 use arrayvec::ArrayVec;
 use sz_base::Seconds;
 

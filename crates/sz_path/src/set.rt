@@ -19,7 +19,7 @@ impl PlaceSet {
     }
 
     /// Whether the place is in the set.
-    pub fn has(self, place: usize) -> bool
+    pub(crate) fn has(self, place: usize) -> bool
         requires { place < 64 }
         ensures { result ≡ has self place }
     {
@@ -27,7 +27,7 @@ impl PlaceSet {
     }
 
     /// The set with this place too.
-    pub fn with(self, place: usize) -> Self
+    pub(crate) fn with(self, place: usize) -> Self
         requires { place < 64 }
         ensures { (other : ℕ) → has result other ≡ (other == place || has self other) }
     {

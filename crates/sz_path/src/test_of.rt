@@ -4,7 +4,7 @@ ghost use Rattle.std.specs.Prelude.{◌↔◌, ◌≤◌, length, IsTrue};
 ghost use Rattle.sz_path.specs.Sets.{AreAt};
 ghost use Rattle.sz_path.specs.declared.place.Place.{Place};
 
-use crate::{Place, PlaceSet};
+use crate::{Place, PlaceSet, Places};
 
 /// A test of a place.
 pub trait Test {
@@ -16,7 +16,14 @@ pub trait Test {
 }
 
 /// The places that pass the test.
-pub fn places_where<T: Test>(places: &[Place<'_>], test: &T) -> PlaceSet
+pub fn select<T: Test>(places: &Places<'_>, test: &T) -> PlaceSet
+    ensures { AreAt places.now.items (λ _ place. T.holds test.now place) result }
+{
+    places_where(places.as_slice(), test)
+}
+
+/// Of these places, those that pass the test.
+pub(crate) fn places_where<T: Test>(places: &[Place<'_>], test: &T) -> PlaceSet
     requires { length places.now ≤ 64 }
     ensures { AreAt places.now (λ _ place. T.holds test.now place) result }
 {

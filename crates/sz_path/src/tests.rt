@@ -1,4 +1,4 @@
-//! A bag that is full, and sets and searches over strings that are no certificates. Chains are tried in the crate above.
+//! A bag that is full, sets, and searches over strings that are no certificates; the crate above tries chains.
 
 use super::*;
 use std::test::Fail;
@@ -44,18 +44,16 @@ fn no_certificate_is_at_no_place(rt: HostRuntime) -> Result<(), Fail> {
     assert_eq!(rt; bag.add(b"no certificate"), Ok(()));
     let places = places_of(&Bag::create(), &bag);
     assert_eq!(rt; places.len(), 0);
-    let all = places_where(places.as_slice(), &Any);
+    let all = select(&places, &Any);
     assert!(rt; all.is_empty());
     let covered = Covered {
         first: None,
         rest: b"message",
     };
-    assert!(rt; verifying(places.as_slice(), all, &covered, b"signature").is_empty());
-    let links = links_of(places.as_slice(), Seconds(0));
-    assert_eq!(rt; links.len(), 0);
+    assert!(rt; select_verifying(&places, all, &covered, b"signature").is_empty());
     for crls in [None, Some(&CrlBag::create())] {
-        let found = is_chained(places.as_slice(), links.as_slice(), all, crls, Seconds(0));
-        assert!(rt; !found);
+        let found = find_chain(&places, all, crls, Seconds(0));
+        assert_eq!(rt; found, Err(NoChain::Path));
     }
     Ok(())
 }

@@ -1,6 +1,6 @@
 //! What a key may be used for, and when (RFC 5280 sections 4.1.2.5 and 4.2.1.3).
 
-ghost use Rattle.std.specs.Prelude.{◌↔◌, ◌<◌, ◌≤ℤ◌, IsTrue};
+ghost use Rattle.std.specs.Prelude.{◌↔◌, ◌<◌, IsTrue};
 ghost use Rattle.sz_path.specs.Chain.{IsAuthority, IsValidAt, MaySign};
 ghost use Rattle.sz_path.specs.Cleared.{IsNotOver};
 ghost use Rattle.sz_path.specs.Issuer.{MayUse};

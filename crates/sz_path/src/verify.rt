@@ -7,12 +7,27 @@ ghost use Rattle.sz_lms.specs.Hss.{HssOk};
 ghost use Rattle.sz_path.specs.Sets.{AreAt, AreFirst, At, has};
 ghost use Rattle.sz_path.specs.declared.place.Place.{Place};
 
-use crate::{Place, PlaceSet};
+use crate::{Place, PlaceSet, Places};
 use sz_cms::Covered;
 use sz_lms::HssCheck;
 
-/// Of these places, those under whose keys the signature is one of what it covers. Each key is tried once at most.
-pub fn verifying(
+/// Of the places that are wanted, those under whose keys the signature is one of what it covers (RFC 8554 section 6.3).
+/// Each key is tried once at most.
+pub fn select_verifying(
+    places: &Places<'_>,
+    wanted: PlaceSet,
+    covered: &Covered<'_>,
+    signature: &[u8],
+) -> PlaceSet
+    ensures { AreAt places.now.items (λ at place. (has wanted at ≡ true)
+        × HssOk place.cert.key.now (covered_bytes covered.now) signature.now) result }
+{
+    verifying(places.as_slice(), wanted, covered, signature)
+}
+
+/// Of the wanted ones of these places, those under whose keys the signature is one of what it covers. Each key is tried
+/// once at most.
+pub(crate) fn verifying(
     places: &[Place<'_>],
     wanted: PlaceSet,
     covered: &Covered<'_>,

@@ -1,19 +1,50 @@
-//! Whether a chain exists.
+//! Whether a chain exists, and why not.
 
-ghost use Rattle.std.specs.Prelude.{◌≡◌, ◌↔◌, ◌≤◌, ℕ, List, length, IsTrue, Option};
+ghost use Rattle.std.specs.Prelude.{◌≡◌, ◌↔◌, ◌≤◌, ℕ, List, length, IsTrue, IfErr, IsOk, Option};
 ghost use Rattle.std.specs.Option.{option_copied};
 ghost use Rattle.sz_path.specs.Links.{AreLinks};
-ghost use Rattle.sz_path.specs.Ways.{AreSteps, IsChained};
+ghost use Rattle.sz_path.specs.Ways.{AreSteps, IsChained, IsUnchained};
 
+use crate::links::links_of;
 use crate::lists::current_lists;
 use crate::node::{cleared_links, nodes_of};
 use crate::search::has_way;
-use crate::{CrlBag, Place, PlaceSet};
+use crate::{CrlBag, Place, PlaceSet, Places};
 use sz_base::Seconds;
 
+/// Why no chain leads up to an anchor.
+#[derive(Clone, Copy, Debug, PartialEq, Eq)]
+pub enum NoChain {
+    /// None does, whatever the revocation lists say.
+    Path,
+    /// Chains do, and the revocation lists clear none of them.
+    Revoked,
+}
+
 /// Whether a chain of at most eight certificates leads from one of the signers up to an anchor, at the time and with
-/// these revocation lists. `links` are the issuers of each certificate.
-pub fn is_chained(
+/// these revocation lists where there are any; and why none does.
+pub fn find_chain(
+    places: &Places<'_>,
+    signers: PlaceSet,
+    crls: Option<&CrlBag<'_>>,
+    when: Seconds,
+) -> Result<(), NoChain>
+    ensures ok { IsOk result ↔ IsChained (option_copied crls.entry) when.0 signers places.now.items }
+    ensures fault { IfErr result (IsUnchained (option_copied crls.entry) when.0 signers places.now.items) }
+{
+    let places = places.as_slice();
+    let links = links_of(places, when);
+    if !is_chained(places, links.as_slice(), signers, None, when) {
+        return Err(NoChain::Path);
+    }
+    if !is_chained(places, links.as_slice(), signers, crls, when) {
+        return Err(NoChain::Revoked);
+    }
+    Ok(())
+}
+
+// Whether a chain leads up to an anchor, over these links and with these revocation lists.
+fn is_chained(
     places: &[Place<'_>],
     links: &[PlaceSet],
     signers: PlaceSet,

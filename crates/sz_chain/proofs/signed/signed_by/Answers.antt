@@ -3,8 +3,6 @@ use Rattle.std.proofs.lemmas.Option.{same_Some}
 use Rattle.std.specs.Option.{option_copied}
 use Rattle.sz_cms.specs.View.{signed_of, signer_of}
 use Rattle.sz_cms.specs.declared.signer.Signer.{Signer}
-use Rattle.sz_path.specs.Places.{ArePlaces}
-use Rattle.sz_path.specs.declared.place.Place.{Place}
 use Rattle.sz_chain.specs.Places.{AreFitting}
 use Rattle.sz_chain.specs.SignedBy.{HasFitting, HasSigner}
 use Rattle.sz_chain.specs.declared.fault.ChainFault.TheVariants as fault
@@ -51,8 +49,7 @@ returns-in-Ok c =
     let content = c.in-Some.content.now in
     let fitting = subst (λ (s : List Signer). AreFitting signed content (map signer_of s)) (sym c.as_slice.ensures.value)
     c.fitting_signers-signers.ensures in
-    let are = subst (λ (p : List Place). ArePlaces anchors bag p) (sym c.as_slice-2.ensures.value) c.places_of-places.ensures in
-    let by = c.in-Ok.ensures signed bag anchors c.in-Some.ensures.1 fitting are in record {
+    let by = c.in-Ok.ensures signed bag anchors c.in-Some.ensures.1 fitting c.places_of-places.ensures in record {
       ok = by;
       only = λ other is. same_Some content other (sym c.in-Some.ensures.1 ∙ is.has_content);
       fault = tt;
@@ -68,8 +65,7 @@ returns-in-Err c =
     let content = c.in-Some.content.now in
     let fitting = subst (λ (s : List Signer). AreFitting signed content (map signer_of s)) (sym c.as_slice.ensures.value)
     c.fitting_signers-signers.ensures in
-    let are = subst (λ (p : List Place). ArePlaces anchors bag p) (sym c.as_slice-2.ensures.value) c.places_of-places.ensures in
-    let refused = c.in-Err.ensures signed bag anchors c.in-Some.ensures.1 fitting are in record {
+    let refused = c.in-Err.ensures signed bag anchors c.in-Some.ensures.1 fitting c.places_of-places.ensures in record {
       ok = tt;
       only = λ other is. not_both signed bag anchors crls c.args.when.0 (fault.NoChain c.in-Err.why) other refused is;
       fault = refused;

@@ -5,4 +5,4 @@ use Rattle.sz_chain.specs.Places.{FitsOne}
 use Rattle.sz_chain.proofs.signers.fitting_places.Given as goal
 
 abbrev pub invariant-loop-signer : goal.invariant-loop-signer
-invariant-loop-signer l = AreAt l.places (λ _. FitsOne (map signer_of (take l.signer-index l.signers))) l.fitting
+invariant-loop-signer l = AreAt l.places.items (λ _. FitsOne (map signer_of (take l.signer-index l.signers))) l.fitting

@@ -3,5 +3,5 @@ use Rattle.sz_chain.proofs.signers.verified_by.Goals as goal
 
 pub returns : goal.returns
 returns c =
-    verified_is c.args.places.now c.args.signer.now c.args.content.now _ c.places_where-fitting.result c.verifying.result c.covered.ensures
-    c.places_where-fitting.ensures c.verifying.ensures
+    verified_is c.args.places.now.items c.args.signer.now c.args.content.now _ c.select-fitting.result c.select_verifying.result c.covered.ensures
+    c.select-fitting.ensures c.select_verifying.ensures

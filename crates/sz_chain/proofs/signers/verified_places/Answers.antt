@@ -7,10 +7,10 @@ use Rattle.sz_chain.proofs.signers.verified_places.Goals as goal
 
 pub loop-signer-preserved : goal.loop-signer-preserved
 loop-signer-preserved c =
-    verifies_step c.args.signers.now c.loop-signer.signer-index _ c.loop-signer-test.true c.args.places.now c.loop-signer.verified c.verified_by.result
+    verifies_step c.args.signers.now c.loop-signer.signer-index _ c.loop-signer-test.true c.args.places.now.items c.loop-signer.verified c.verified_by.result
     c.or-verified.result c.or-verified.ensures c.args.content.now c.loop-signer.invariant c.verified_by.ensures
 
 pub returns : goal.returns
 returns c =
-    subst (λ (s : List message.Signer). AreAt c.args.places.now (λ _. VerifiesOne s c.args.content.now) c.loop-signer.verified)
+    subst (λ (s : List message.Signer). AreAt c.args.places.now.items (λ _. VerifiesOne s c.args.content.now) c.loop-signer.verified)
     (all_signers c.args.signers.now c.loop-signer.signer-index c.loop-signer-test.false) c.loop-signer.invariant

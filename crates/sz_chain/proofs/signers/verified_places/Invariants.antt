@@ -5,4 +5,4 @@ use Rattle.sz_chain.specs.Places.{VerifiesOne}
 use Rattle.sz_chain.proofs.signers.verified_places.Given as goal
 
 abbrev pub invariant-loop-signer : goal.invariant-loop-signer
-invariant-loop-signer l = AreAt l.places (λ _. VerifiesOne (map signer_of (take l.signer-index l.signers)) l.content) l.verified
+invariant-loop-signer l = AreAt l.places.items (λ _. VerifiesOne (map signer_of (take l.signer-index l.signers)) l.content) l.verified

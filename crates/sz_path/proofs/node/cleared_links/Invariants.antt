@@ -1,4 +1,4 @@
-use Rattle.std.proofs.Common.{◌≡◌, ℕ, List, Some, length}
+use Rattle.std.proofs.Common.{◌≡◌, ℕ, length}
 use Rattle.sz_path.specs.Sets.{At}
 use Rattle.sz_path.specs.declared.place.Place.{Place}
 use Rattle.sz_path.specs.declared.set.PlaceSet.{PlaceSet}

@@ -1,4 +1,4 @@
-use Rattle.std.proofs.Common.{◌≡◌, ◌++◌, ◌∷◌, [], ℕ, List, Option, Some, None, sym, ap, ◌∙◌, subst, append_assoc}
+use Rattle.std.proofs.Common.{◌++◌, ◌∷◌, [], ℕ, List, Option, sym, subst, append_assoc}
 use Rattle.sz_cms.specs.View.{bytes_after}
 use Rattle.sz_lms.specs.Check.{Checks}
 use Rattle.sz_path.proofs.verify.update_covered.Goals as goal

@@ -1,4 +1,4 @@
-use Rattle.std.proofs.Common.{◌≡◌, None, Some, true≢false, sym, ◌∙◌, [], arith}
+use Rattle.std.proofs.Common.{true≢false, sym, ◌∙◌, [], arith}
 use Rattle.std.proofs.lemmas.Option.{none-some}
 use Rattle.sz_cms.specs.View.{covered_bytes}
 use Rattle.sz_lms.proofs.LawHss.{hss_law}

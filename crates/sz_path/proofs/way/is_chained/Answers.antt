@@ -25,6 +25,6 @@ returns-in-Some c =
     c.current_lists-lists.ensures in
     let steps = subst (λ (xs : List PlaceSet). AreSteps (Some crls) c.args.when.0 c.args.places.now xs) (sym c.as_slice-in-Some.ensures.value)
     (c.cleared_links-cleared.ensures c.args.when.0 crls c.requires.linked lists) in
-    subst (λ (o : Option (Bor (List (List ℕ)))). (c.is_stepped-in-Some.result ≡ true) ↔ IsChained (option_copied o) c.args.when.0 c.args.signers c.args.places.now)
-    (sym c.in-Some.is)
+    let found = c.is_stepped-in-Some.result in
+    subst (λ (o : Option (Bor (List (List ℕ)))). (found ≡ true) ↔ IsChained (option_copied o) c.args.when.0 c.args.signers c.args.places.now) (sym c.in-Some.is)
     (c.is_stepped-in-Some.ensures (Some crls) steps)
