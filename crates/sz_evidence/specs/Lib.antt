@@ -1,0 +1,6 @@
+pub mod Reason
+pub mod Authorised
+pub mod Judgement
+pub mod View
+pub mod Running
+pub mod IdentityFile

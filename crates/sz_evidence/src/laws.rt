@@ -1,0 +1,64 @@
+//! Laws of the judgement and of identity files. Each is the contract of a function that does nothing.
+
+ghost use Rattle.std.specs.Prelude.{◌≡◌, ◌↔◌, ◌≤ℤ◌, List, ℕ, Result, Ok, IfSome};
+ghost use Rattle.sz_base.specs.declared.evidence.Evidence.{Evidence};
+ghost use Rattle.sz_base.specs.declared.identity.Identity.{Identity};
+ghost use Rattle.sz_base.specs.declared.moment.Moment.{Moment};
+ghost use Rattle.sz_cms.specs.Message.{InfoOf, Plain};
+ghost use Rattle.sz_conveyed.specs.declared.onboarding.Onboarding.{Onboarding};
+ghost use Rattle.sz_evidence.specs.Authorised.{Authorised, CarriesVoucher};
+ghost use Rattle.sz_evidence.specs.IdentityFile.{IdentityOf, IsBadIdentity};
+ghost use Rattle.sz_evidence.specs.Judgement.{Judgement};
+ghost use Rattle.sz_evidence.specs.declared.judgement.Judged.{Judged};
+ghost use Rattle.sz_evidence.specs.declared.reason.Reason.{Reason};
+ghost use Rattle.sz_json.specs.declared.name.Name.{Name};
+ghost use Rattle.sz_voucher.specs.declared.voucher.Voucher.{Voucher};
+
+/// The judgement is one answer.
+pub fn judgements_are_single()
+    ensures { (identity : Identity) (when : Moment) (evidence : Evidence) (answer other : Result Judged Reason)
+        → Judgement identity when evidence answer → Judgement identity when evidence other → answer ≡ other }
+{}
+
+/// The judgement is onboarding information exactly where this is authorised.
+pub fn judged_onboarding_is_authorised()
+    ensures { (identity : Identity) (when : Moment) (evidence : Evidence) (onboarding : Onboarding)
+        → Judgement identity when evidence (Ok (Judged.Onboarding onboarding))
+        ↔ Authorised identity when evidence onboarding }
+{}
+
+/// Evidence authorises one piece of onboarding information.
+pub fn evidence_authorises_one()
+    ensures { (identity : Identity) (when : Moment) (evidence : Evidence) (onboarding other : Onboarding)
+        → Authorised identity when evidence onboarding → Authorised identity when evidence other
+        → onboarding ≡ other }
+{}
+
+/// Nothing that is not signed is ever authorised.
+pub fn unsigned_is_not_authorised()
+    ensures { (identity : Identity) (when : Moment) (evidence : Evidence) (onboarding : Onboarding)
+        (kind content : List ℕ) → InfoOf evidence.ci (Plain kind content)
+        → ¬ (Authorised identity when evidence onboarding) }
+{}
+
+/// Nothing is ever authorised by a voucher for another serial number.
+pub fn authorised_is_for_the_serial_number()
+    ensures { (identity : Identity) (when : Moment) (evidence : Evidence) (onboarding : Onboarding)
+        (voucher : Voucher) → Authorised identity when evidence onboarding → CarriesVoucher evidence.ov voucher
+        → voucher.serial ≡ identity.serial }
+{}
+
+/// Nothing is ever authorised by a voucher that has expired.
+pub fn authorised_has_not_expired()
+    ensures { (identity : Identity) (when : Moment) (evidence : Evidence) (onboarding : Onboarding)
+        (voucher : Voucher) → Authorised identity when evidence onboarding → CarriesVoucher evidence.ov voucher
+        → IfSome voucher.expires_on (λ end. when.time.0 ≤ℤ end.0) }
+{}
+
+/// A file is read as one identity, and none that is read is refused.
+pub fn identities_are_single()
+    ensures one_identity { (bytes : List ℕ) (identity other : Identity) → IdentityOf bytes identity
+        → IdentityOf bytes other → identity ≡ other }
+    ensures not_both { (bytes : List ℕ) (identity : Identity) (name : Name) → IdentityOf bytes identity
+        → IsBadIdentity bytes name → ⊥ }
+{}

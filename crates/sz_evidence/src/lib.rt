@@ -1,0 +1,28 @@
+//! Whether evidence authorises a device to be bootstrapped (RFC 8572 section 5): the judgement on conveyed information,
+//! owner certificate and ownership voucher, as one answer that a table of rules gives.
+//!
+//! Beside it stand the reasons for which a visit of a source comes to nothing, the file of an identity, and whether what
+//! runs is what onboarding information asks for.
+#![tactic(auto)]
+
+mod identity;
+mod judgement;
+mod laws;
+mod messages;
+mod reason;
+mod running;
+mod strings;
+mod vouched;
+
+pub use identity::{IdentityFault, read_identity};
+pub use judgement::{Judged, Refusal, judge};
+pub use laws::{
+    authorised_has_not_expired, authorised_is_for_the_serial_number, evidence_authorises_one,
+    identities_are_single, judged_onboarding_is_authorised, judgements_are_single,
+    unsigned_is_not_authorised,
+};
+pub use reason::{Artifact, Reason, What};
+pub use running::satisfied;
+
+#[cfg(test)]
+mod tests;
