@@ -1,5 +1,5 @@
 -- Trees that have been built, at their places.
-use Rattle.std.proofs.Common.{◌≡◌, ℕ, ◌+◌, ◌<◌, ◌≤◌, List, [], ◌∷◌, ◌++◌, length, get_or, take, sym, ap, ◌∙◌, arith, length-take, length-take-le}
+use Rattle.std.proofs.Common.{◌≡◌, ℕ, ◌<◌, ◌≤◌, List, [], ◌∷◌, ◌++◌, length, get_or, take, sym, ap, ◌∙◌, arith, length-take, length-take-le}
 use Rattle.std.proofs.lemmas.List.{get_or-take, get_or_push, length_push}
 use Rattle.sz_lms_tree.specs.Tree.{TreeSecret}
 use Rattle.sz_hss.specs.Built.{IsTreeAt}

@@ -1,8 +1,10 @@
 pub mod Runs
 pub mod Built
 pub mod Form
+pub mod LevelsTexts
 pub mod Once
 pub mod Path
 pub mod Spelled
 pub mod Verifies
 pub mod Walk
+pub mod Wrapped

@@ -1,6 +1,7 @@
 pub mod Built
 pub mod Key
 pub mod Leaf
+pub mod LevelsText
 pub mod Signature
 pub mod Stored
 pub mod StoredFault

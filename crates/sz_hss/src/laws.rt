@@ -1,7 +1,10 @@
 //! Laws of keys. Each is a theorem, which the function of its name carries; a call does nothing.
 
-ghost use Rattle.std.specs.Prelude.{◌≡◌, ℕ, List, Contains, None};
-ghost use Rattle.sz_hss.specs.Key.{HssKey, IsKey};
+ghost use Rattle.std.specs.Prelude.{◌≡◌, ℕ, List, Contains, None, Result};
+ghost use Rattle.sz_base.specs.Reading.{GivesUnlessMemory, ReadsValue};
+ghost use Rattle.sz_base.specs.declared.fault.BaseFault.{BaseFault};
+ghost use Rattle.sz_hss.specs.Key.{AreLevels, HssKey, IsKey, Shape};
+ghost use Rattle.sz_hss.specs.LevelsText.{IsLevelsText, levels_text};
 ghost use Rattle.sz_hss.specs.Signature.{hss_public_of, hss_signature_of};
 ghost use Rattle.sz_hss.specs.Stored.{StoredKey, IsStored};
 ghost use Rattle.sz_hss.specs.StoredFault.{first_wrong, stored_tests};
@@ -25,4 +28,11 @@ pub fn leaves_sign_once()
 /// The stored form of a key has no wrong byte, so that a reader refuses exactly what is no stored key.
 pub fn stored_keys_have_no_wrong_byte()
     ensures { (stored : StoredKey) (bytes : List ℕ) → IsStored stored bytes → first_wrong (stored_tests bytes) ≡ None }
+{}
+
+/// Levels that a key may have are read from their text, and a text has one reading.
+pub fn levels_read_back()
+    ensures again { (shapes : List Shape) (answer : Result (List Shape) BaseFault) → AreLevels shapes
+        → ReadsValue (IsLevelsText (levels_text shapes)) answer → GivesUnlessMemory answer shapes }
+    ensures one_reading { (text : List ℕ) (a b : List Shape) → IsLevelsText text a → IsLevelsText text b → a ≡ b }
 {}

@@ -99,8 +99,8 @@ pub(crate) fn is_width(width: u8) -> bool
     width == 1 || width == 2 || width == 4 || width == 8
 }
 
-// Trees of this shape exist.
-fn is_shape(level: &Level) -> bool
+/// Trees of this shape exist.
+pub(crate) fn is_shape(level: &Level) -> bool
     ensures { result ≡ is_shape (shape_of level.now) }
 {
     is_height(level.height) && is_width(level.width)

@@ -7,6 +7,7 @@ mod key;
 mod laws;
 mod leaf;
 mod level;
+mod levels_text;
 mod reading;
 mod stored;
 #[cfg(test)]
@@ -14,7 +15,9 @@ mod tests;
 mod trees;
 
 pub use key::Key;
-pub use laws::{leaves_sign_once, signatures_verify, stored_keys_have_no_wrong_byte};
+pub use laws::{
+    leaves_sign_once, levels_read_back, signatures_verify, stored_keys_have_no_wrong_byte,
+};
 pub use level::{Level, Levels};
 pub use reading::{BadKey, read};
 pub use stored::{Payload, StoredKey, spell};

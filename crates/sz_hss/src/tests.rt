@@ -7,7 +7,7 @@ use std::process::Abort;
 use std::sync::atomic::{AtomicU64, Ordering};
 use std::test::Fail;
 use std::thread::Threads;
-use sz_base::{Bytes, Messages};
+use sz_base::{BaseFault, Bytes, Messages};
 use sz_lms_tree::{Gate, OpenGate, Part};
 
 // A stored key of two levels, 5/4 and 5/8, whose next leaf number is 45.
@@ -61,44 +61,26 @@ fn signatures_of_one_to_three_levels(rt: HostRuntime) -> Result<(), Fail> {
     Ok(())
 }
 
-// Each place with another byte there, and what is then wrong.
+// Each place with another byte there, and the place and the byte that are then wrong.
 #[test]
 fn wrong_bytes(rt: HostRuntime) {
     let rows = [
-        (0, 2, BadKey { place: 0, value: 2 }),
-        (1, 4, BadKey { place: 1, value: 4 }),
-        (2, 6, BadKey { place: 2, value: 6 }),
-        (5, 3, BadKey { place: 5, value: 3 }),
-        (
-            1,
-            1,
-            BadKey {
-                place: 52,
-                value: 0x3c,
-            },
-        ),
-        (
-            60,
-            4,
-            BadKey {
-                place: 54,
-                value: 0,
-            },
-        ),
-        (
-            68,
-            5,
-            BadKey {
-                place: 62,
-                value: 0,
-            },
-        ),
+        (0, 2, 0, 2),
+        (1, 4, 1, 4),
+        (2, 6, 2, 6),
+        (5, 3, 5, 3),
+        (1, 1, 52, 0x3c),
+        (60, 4, 54, 0),
+        (68, 5, 62, 0),
     ];
-    for (place, byte, wrong) in rows {
+    for (at, byte, place, value) in rows {
         let mut bytes = TWO;
-        assert!(rt; place < bytes.len(), "inside");
-        bytes[place] = byte;
-        assert!(rt; read(&bytes).err() == Some(wrong), "at {place}");
+        assert!(rt; at < bytes.len(), "inside");
+        bytes[at] = byte;
+        assert!(rt;
+            read(&bytes).err() == Some(BadKey { place, value }),
+            "at {at}"
+        );
     }
     let early = BadKey {
         place: 69,
@@ -134,6 +116,45 @@ fn levels_that_a_key_may_have(rt: HostRuntime) {
         Levels::from_slice(&[five, high]).is_none(),
         "a height that no tree has"
     );
+}
+
+const NO_LEVELS: &[&[u8]] = &[
+    b"",
+    b"5",
+    b"5/",
+    b"/8",
+    b"5/8,",
+    b",5/8",
+    b"5/3",
+    b"20/4",
+    b"05/8",
+    b"+5/8",
+    b"5/8 ",
+    b"5/8/1",
+    b"5/8;5/8",
+    b"5/8,5/8,5/8,5/8",
+];
+
+#[test]
+fn levels_from_their_text(rt: HostRuntime) {
+    let high = Level {
+        height: 10,
+        width: 4,
+    };
+    let low = Level {
+        height: 5,
+        width: 8,
+    };
+    let Ok(read) = Levels::read(b"10/4,5/8") else {
+        assert!(rt; false, "two levels");
+        return;
+    };
+    assert!(rt;
+        read.as_slice().len() == 2 && read.as_slice()[0] == high && read.as_slice()[1] == low
+    );
+    for text in NO_LEVELS {
+        assert!(rt; Levels::read(text).err() == Some(BaseFault::Form));
+    }
 }
 
 // A gate at which the first item waits until a second one has come. It counts items, and those that waited in vain.

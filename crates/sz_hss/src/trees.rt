@@ -244,6 +244,7 @@ impl Trees {
     }
 
     /// What leaf numbers from `first` on sign the messages with, in order: of each message the bytes that `sign` gives.
+    /// Leaf numbers count modulo the number of leaves.
     /// Of the messages that go through one lowest tree each is signed by a thread of its own where one can be made, and
     /// enters the gate as it begins; the trees are built in their order.
     pub fn sign_batch<R: Threads + Sync, G: Gate + Sync>(
@@ -254,11 +255,11 @@ impl Trees {
         first: u64,
         messages: &Messages,
     ) -> Result<Signatures, OutOfMemory>
-        requires { first + length messages.now < 2 ^ 64 }
         ensures same { self.new ≡ self.old }
         ensures exact { IfOk result (AreSignatures self.old first messages.now) }
     {
         let messages = messages.as_slice();
+        let first = first % self.key.leaf_count();
         let signatures = sign_all(rt, gate, alloc, &self.key, &mut self.trees, first, messages)?;
         Ok(Signatures::from_vec(signatures))
     }

@@ -1,4 +1,4 @@
-use Rattle.std.proofs.Common.{◌≤◌, length, arith}
+use Rattle.std.proofs.Common.{◌≤◌, arith}
 use Rattle.std.proofs.lemmas.List.{length-map}
 use Rattle.sz_hss.specs.View.{shape_of, shapes_of}
 use Rattle.sz_hss.specs.declared.level.Level.{Level}
