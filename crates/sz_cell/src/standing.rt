@@ -88,6 +88,13 @@ impl Standing {
         }
     }
 
+    /// How many bytes a payload may have.
+    pub(crate) fn capacity(&self) -> u32
+        ensures { result ≡ self.now.capacity }
+    {
+        self.region.capacity
+    }
+
     /// How many bytes the payload has.
     pub(crate) fn size(&self) -> u32
         ensures { result ≡ self.now.size }

@@ -73,6 +73,13 @@ impl Ready {
         Ready { standing }
     }
 
+    /// How many bytes a payload may have.
+    pub fn capacity(&self) -> u32
+        ensures { result ≡ self.now.capacity }
+    {
+        self.standing.capacity()
+    }
+
     /// How many bytes the payload has.
     pub fn length(&self) -> u32
         ensures { result ≡ self.now.size }

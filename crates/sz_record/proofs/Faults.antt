@@ -23,6 +23,7 @@ fault_at space payload wrong left place byte is place_is byte_is first p v e =
     let found : f.place ≡ p = omega (arith, f.counted, place_is, at) in
     record {
       first = f.first ∙ ap (λ x. Some x) found;
+      within = omega (arith, f.counted, found);
       byte = sym value ∙ byte_is ∙ ap (λ x. slice_index payload x) at;
     }
 

@@ -4,6 +4,6 @@ mod Faults
 mod Fields
 mod Numbers
 mod Once
-mod Parts
+pub mod Parts
 mod Told
 mod Totals

@@ -1,14 +1,15 @@
 -- What a reader that refuses a payload answers.
-use Rattle.std.specs.Prelude.{◌≡◌, ℕ, List, ◌++◌, codes, slice_index, Some}
+use Rattle.std.specs.Prelude.{◌≡◌, ℕ, ◌≤◌, List, ◌++◌, codes, length, slice_index, Some}
 use Rattle.std.specs.Fmt.{decimal}
 use Rattle.sz_base.specs.Fault.{memory_words}
 use Rattle.sz_record.specs.Stored.{first_wrong}
 use Rattle.sz_record.specs.declared.fault.RecordFault.{RecordFault}
 use Rattle.sz_record.specs.declared.fault.RecordFault.TheVariants.{BadRecord, OutOfMemory}
 
--- the payload's first wrong byte stands at this place, and this is it, or 0 at the end
+-- the payload's first wrong byte stands at this place, and this is it, or 0 where the place is the end
 pub record IsBadAt (space : ℕ) (payload : List ℕ) (place value : ℕ) : Type 0 where
   pub first : first_wrong space payload ≡ Some place
+  pub within : place ≤ length payload
   pub byte : value ≡ slice_index payload place
 
 -- the answer tells a place and a byte only where they are these; else memory ran out

@@ -11,6 +11,7 @@ mod fault;
 mod laws;
 mod reading;
 mod sizes;
+mod storable;
 mod unread;
 mod writing;
 
@@ -19,6 +20,7 @@ pub use fault::RecordFault;
 pub use laws::{devices_are_rewritten, payloads_have_one_reading};
 pub use reading::read;
 pub use sizes::{installed_size, onboarded_size, size};
+pub use storable::is_storable;
 pub use writing::write;
 
 #[cfg(test)]

@@ -1,9 +1,11 @@
 //! Stored devices that were spelled by hand, and each kind of wrong byte at its place.
 
-use crate::{Device, RecordFault, Stage, installed_size, onboarded_size, read, size, write};
+use crate::{
+    Device, RecordFault, Stage, installed_size, is_storable, onboarded_size, read, size, write,
+};
 use std::alloc::Global;
 use std::test::Fail;
-use sz_base::{Bytes, Seconds};
+use sz_base::{Bytes, Seconds, Text};
 use sz_conveyed::Handling;
 
 const SPACE: u64 = 262_144;
@@ -188,5 +190,16 @@ fn sizes_of_what_follows_are_told(rt: HostRuntime) -> Result<(), Fail> {
         &done.post,
     );
     assert_eq!(rt; onboarded, 146 + 16 + 2);
+    Ok(())
+}
+
+#[test]
+fn a_name_of_65536_bytes_has_no_stored_form(rt: HostRuntime) -> Result<(), Fail> {
+    let alloc = rt.alloc();
+    let mut device = read(alloc, SPACE, second_version(alloc)?.as_slice())?;
+    for (length, storable) in [(65_535, true), (65_536, false)] {
+        device.running_name = Text::from_vec(vec![in alloc; b'o'; length]?);
+        assert_eq!(rt; is_storable(&device), storable, "at {length}");
+    }
     Ok(())
 }
