@@ -1,0 +1,46 @@
+use Rattle.std.proofs.Common.{◌≡◌, IfOk, sym, subst}
+use Rattle.sz_record.specs.Spelling.{new_version, record_bytes}
+use Rattle.sz_record.specs.Stored.{IsStorable}
+use Rattle.sz_record.specs.declared.device.Device.{Device}
+use Rattle.sz_state.specs.Layout.{space_of}
+use Rattle.sz_state.specs.Ran.{RecordReplaced}
+use Rattle.sz_state.specs.Step.{once_onboarded}
+use Rattle.sz_state.proofs.Changing.{changed, committed-stored, stored_as, through}
+use Rattle.sz_state.proofs.change.onboard.Goals as goal
+
+pub replace-requires-clause-storable : goal.replace-requires-clause-storable
+replace-requires-clause-storable g c =
+    let held = c.requires.held in
+    subst (λ (d : Device). IsStorable new_version d) (sym c.committed-device.ensures)
+    (committed-stored (g.D.Disk.seen c.args.disk.now).size held.payload c.args.held.device c.args.onboarding c.args.when
+    c.args.evidence held.layout held.stored c.requires.can)
+
+pub returns-clause-ok : goal.returns-clause-ok
+returns-clause-ok g c =
+    let old = g.D.Disk.seen c.args.disk.now in
+    let new = g.D.Disk.seen c.replace.new.disk in
+    let held = c.requires.held in
+    let e = c.committed-device.ensures in
+    let after = once_onboarded c.args.held.device c.args.onboarding c.args.when c.args.evidence in
+    let P : Device → Type 0 = λ d. RecordReplaced old new c.args.held.ready held.payload (record_bytes new_version d) c.replace.result in
+    let Q : Device → Type 0 = λ d. IfOk c.replace.result (λ now. now.device ≡ d) in
+    let storable = committed-stored old.size held.payload c.args.held.device c.args.onboarding c.args.when c.args.evidence
+    held.layout held.stored c.requires.can in
+    changed old new c.args.held after (record_bytes new_version after) (g.met.D.Disk.lawful c.args.disk.now)
+    (g.met.D.Disk.lawful c.replace.new.disk) held (stored_as (space_of old.size) after storable held.stored.within)
+    c.replace.result (subst P e (c.replace.ensures.replaced held.payload held.ready)) (subst Q e c.replace.ensures.device)
+
+pub returns-clause-stands : goal.returns-clause-stands
+returns-clause-stands g c stands =
+    let old = g.D.Disk.seen c.args.disk.now in
+    let new = g.D.Disk.seen c.replace.new.disk in
+    let held = c.requires.held in
+    let e = c.committed-device.ensures in
+    let after = once_onboarded c.args.held.device c.args.onboarding c.args.when c.args.evidence in
+    let P : Device → Type 0 = λ d. RecordReplaced old new c.args.held.ready held.payload (record_bytes new_version d) c.replace.result in
+    let storable = committed-stored old.size held.payload c.args.held.device c.args.onboarding c.args.when c.args.evidence
+    held.layout held.stored c.requires.can in
+    through old new c.args.held after (record_bytes new_version after) (g.met.D.Disk.lawful c.args.disk.now)
+    (g.met.D.Disk.lawful c.replace.new.disk) held (stored_as (space_of old.size) after storable held.stored.within)
+    c.replace.result (subst P e (c.replace.ensures.replaced held.payload held.ready)) stands
+    (λ image left. (stands image left).in_area)

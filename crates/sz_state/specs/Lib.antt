@@ -1,0 +1,10 @@
+pub mod Change
+pub mod Fault
+pub mod Fitting
+pub mod Held
+pub mod Laws
+pub mod Layout
+pub mod Ran
+pub mod Staging
+pub mod Stands
+pub mod Step
