@@ -17,7 +17,8 @@ AppendsFront-first (Some list) now a b front =
     (same.0, rw (← same.1) front.1)
 
 -- a part, and a front of the next
-pub AppendsFront-next : (before middle now : Option (List ℕ)) (a b : List ℕ) → Appends before middle a → AppendsFront middle now b → AppendsFront before now (a ++ b)
+pub AppendsFront-next : (before middle now : Option (List ℕ)) (a b : List ℕ) → Appends before middle a
+    → AppendsFront middle now b → AppendsFront before now (a ++ b)
 AppendsFront-next None middle now a b part front = (0, rw part at front.1)
 AppendsFront-next (Some list) middle now a b part front =
     (length a + front.0, rw (take-append-add a b front.0) (rw (← append_assoc list a (take front.0 b)) (rw part at front.1)))

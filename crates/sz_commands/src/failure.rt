@@ -1,6 +1,6 @@
 //! The failures that commands share, each with its ending and its line.
-ghost use Rattle.std.specs.Prelude.{◌≡◌, ◌++◌};
-ghost use Rattle.sz_commands.specs.Failure.{ending_of, line_of};
+ghost use Rattle.std.specs.Prelude.{◌≡◌};
+ghost use Rattle.sz_commands.specs.Failure.{ending_of, words_of};
 ghost use Rattle.sz_commands.specs.View.{failure_of};
 
 use crate::Ending;
@@ -23,6 +23,22 @@ pub enum Failure<'a> {
     EntropyFault,
     /// The listener failed.
     ListenerFault,
+    /// A disk holds nothing yet.
+    NotInitialised,
+    /// A disk holds at this place this value, which no run of this program leaves.
+    Damaged { place: u64, value: u64 },
+    /// As many leaf numbers aren't left: this is the next one, and this the first that there isn't.
+    Exhausted { next: u64, end: u64 },
+    /// A disk had its last value.
+    LastSequence,
+    /// The word is no list of levels.
+    LevelsRefused(&'a Text),
+    /// A disk of this size is too small, or too large.
+    SizeRefused(u64),
+    /// The file of this size is too large.
+    TooLarge(u64),
+    /// The key disk is in use.
+    InUse,
     /// Memory ran out.
     OutOfMemory,
 }
@@ -39,23 +55,38 @@ impl<'a> Failure<'a> {
             Failure::ClockFault => Ending::ClockFault,
             Failure::EntropyFault => Ending::EntropyFault,
             Failure::ListenerFault => Ending::ListenerFault,
+            Failure::NotInitialised => Ending::NotInitialised,
+            Failure::Damaged { .. } => Ending::Damaged,
+            Failure::Exhausted { .. } | Failure::LastSequence => Ending::Exhausted,
+            Failure::LevelsRefused(_)
+            | Failure::SizeRefused(_)
+            | Failure::TooLarge(_)
+            | Failure::InUse => Ending::Refused,
             Failure::OutOfMemory => Ending::OutOfMemory,
         }
     }
 
-    /// Its line without the LF, in two parts: the words, and the path that they name.
-    pub fn line(self) -> (&'a [u8], &'a [u8])
-        ensures { line_of (failure_of self.entry) ≡ result.0.now ++ result.1.now }
+    /// The words with which its line begins.
+    pub fn words(self) -> &'static [u8]
+        ensures { result.now ≡ words_of (failure_of self.entry) }
     {
         match self {
-            Failure::Usage => (b"usage", b""),
-            Failure::NoFile(path) => (b"no file: ", path.as_slice()),
-            Failure::FileFault(path) => (b"file fault: ", path.as_slice()),
-            Failure::DiskFault => (b"disk fault", b""),
-            Failure::ClockFault => (b"clock fault", b""),
-            Failure::EntropyFault => (b"entropy fault", b""),
-            Failure::ListenerFault => (b"listener fault", b""),
-            Failure::OutOfMemory => (b"out of memory", b""),
+            Failure::Usage => b"usage",
+            Failure::NoFile(_) => b"no file: ",
+            Failure::FileFault(_) => b"file fault: ",
+            Failure::DiskFault => b"disk fault",
+            Failure::ClockFault => b"clock fault",
+            Failure::EntropyFault => b"entropy fault",
+            Failure::ListenerFault => b"listener fault",
+            Failure::NotInitialised => b"not initialised",
+            Failure::Damaged { .. } => b"damaged: ",
+            Failure::Exhausted { .. } => b"exhausted: ",
+            Failure::LastSequence => b"exhausted: sequence",
+            Failure::LevelsRefused(_) => b"refused: levels ",
+            Failure::SizeRefused(_) => b"refused: size ",
+            Failure::TooLarge(_) => b"refused: too-large ",
+            Failure::InUse => b"refused: in-use",
+            Failure::OutOfMemory => b"out of memory",
         }
     }
 }

@@ -10,4 +10,4 @@ mod print;
 pub use ending::{Ending, Status};
 pub use failure::Failure;
 pub use input::{input_size, read_front, read_input};
-pub use print::{say, say_failure};
+pub use print::{say, say_failure, say_number};

@@ -1,5 +1,6 @@
 //! Printing a command's line.
-ghost use Rattle.std.specs.Prelude.{◌≡◌, ◌==◌, ◌++◌, ◌∷◌, [], OnOk, OnErr};
+ghost use Rattle.std.specs.Prelude.{◌≡◌, ◌==◌, ◌+◌, ◌≤◌, ◌++◌, ◌∷◌, [], OnOk, OnErr, length};
+ghost use Rattle.std.specs.Fmt.{decimal};
 ghost use Rattle.sz_base.specs.Fault.{put_failed};
 ghost use Rattle.sz_spec.specs.Cause.{HasCause};
 ghost use Rattle.sz_spec.specs.Told.{Appends, AppendsFront};
@@ -9,11 +10,16 @@ ghost use Rattle.sz_commands.specs.Printed.{IsPrinted};
 ghost use Rattle.sz_commands.specs.View.{failure_of};
 
 use crate::{Ending, Failure, Status};
+use arrayvec::ArrayVec;
+use itoa::Buffer;
 use sz_base::PutFault;
 use sz_io::Sink;
 
 /// The number of an output that failed, which takes the place of the work's own.
 const OUTPUT_FAULT: u8 = 32;
+
+/// Room for two numbers of 20 digits and four bytes between them.
+const MOST_NUMBERS: usize = 44;
 
 /// Prints the line of these two parts, and gives the status: that of the ending, unless the line was refused. Of
 /// a refused line a front may have gone out, and nothing goes out behind it.
@@ -29,20 +35,83 @@ pub fn say<O: Sink>(ending: Ending, front: &[u8], rest: &[u8], out: &mut O) -> S
     }
 }
 
-/// The same for a failure.
+/// The same of words and a number.
+pub fn say_number<O: Sink>(ending: Ending, words: &[u8], number: u64, out: &mut O) -> Status
+    ensures printed { IsPrinted (number_of ending) (words.now ++ decimal number ++ 10 ∷ []) result.0
+        (O.written out.old) (O.written out.new) }
+    ensures cause { HasCause (O.faults out.old) (O.faults out.new) (result.0 == output_fault) }
+{
+    let mut digits = Buffer::new();
+    say(ending, words, digits.format(number).as_bytes(), out)
+}
+
+// The same of words and two numbers, with a few words between them.
+fn say_numbers<O: Sink>(
+    ending: Ending,
+    words: &[u8],
+    first: u64,
+    between: &[u8],
+    second: u64,
+    out: &mut O,
+) -> Status
+    requires { length between.now ≤ 4 }
+    ensures printed { IsPrinted (number_of ending)
+        (words.now ++ (decimal first ++ between.now ++ decimal second) ++ 10 ∷ []) result.0
+        (O.written out.old) (O.written out.new) }
+    ensures cause { HasCause (O.faults out.old) (O.faults out.new) (result.0 == output_fault) }
+{
+    let numbers = two_numbers(first, between, second);
+    say(ending, words, numbers.as_slice(), out)
+}
+
+// Two numbers in decimal, with a few words between them.
+fn two_numbers(first: u64, between: &[u8], second: u64) -> ArrayVec<u8, MOST_NUMBERS>
+    requires { length between.now ≤ 4 }
+    ensures { result.items ≡ decimal first ++ between.now ++ decimal second }
+{
+    let mut line = ArrayVec::new();
+    let mut digits = Buffer::new();
+    push_all(&mut line, digits.format(first).as_bytes());
+    push_all(&mut line, between);
+    push_all(&mut line, digits.format(second).as_bytes());
+    line
+}
+
+fn push_all(line: &mut ArrayVec<u8, MOST_NUMBERS>, bytes: &[u8])
+    requires { length line.old.items + length bytes.now ≤ MOST_NUMBERS }
+    ensures { line.new.items ≡ line.old.items ++ bytes.now }
+{
+    let Ok(()) = line.try_extend_from_slice(bytes) else {
+        unreachable!()
+    };
+}
+
+/// Prints the line of a failure, and gives the status.
 pub fn say_failure<O: Sink>(failure: Failure<'_>, out: &mut O) -> Status
     ensures printed { IsPrinted (status_of (failure_of failure.entry)) (text_of (failure_of failure.entry)) result.0
         (O.written out.old) (O.written out.new) }
     ensures cause { HasCause (O.faults out.old) (O.faults out.new) (result.0 == output_fault) }
 {
-    let (front, rest) = failure.line();
-    say(failure.ending(), front, rest, out)
+    let ending = failure.ending();
+    let words = failure.words();
+    match failure {
+        Failure::NoFile(path) | Failure::FileFault(path) | Failure::LevelsRefused(path) => {
+            say(ending, words, path.as_slice(), out)
+        }
+        Failure::SizeRefused(size) | Failure::TooLarge(size) => {
+            say_number(ending, words, size, out)
+        }
+        Failure::Damaged { place, value } => { say_numbers(ending, words, place, b" ", value, out) }
+        Failure::Exhausted { next, end } => say_numbers(ending, words, next, b" of ", end, out),
+        _ => say(ending, words, b"", out),
+    }
 }
 
 // Writes a line that begins so and goes on so.
 fn print_line<O: Sink>(front: &[u8], rest: &[u8], out: &mut O) -> Result<(), PutFault>
     ensures ok { OnOk result (Appends (O.written out.old) (O.written out.new) (front.now ++ rest.now ++ 10 ∷ [])) }
-    ensures refused { OnErr result (AppendsFront (O.written out.old) (O.written out.new) (front.now ++ rest.now ++ 10 ∷ [])) }
+    ensures refused { OnErr result
+        (AppendsFront (O.written out.old) (O.written out.new) (front.now ++ rest.now ++ 10 ∷ [])) }
     ensures cause { HasCause (O.faults out.old) (O.faults out.new) (put_failed result) }
 {
     out.write(front)?;

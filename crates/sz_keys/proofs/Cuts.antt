@@ -6,7 +6,7 @@ use Rattle.sz_io.specs.Folder.{FileMap, bytes_at, readable_at}
 use Rattle.sz_lms.proofs.Longest.{ok_cut, public_cut, signature_cut}
 use Rattle.sz_lms.specs.Hss.{HssOk}
 use Rattle.sz_lms.specs.Rules.{Rule, hss_first}
-use Rattle.sz_commands.specs.Failure.{Failure, Usage, NoFile, FileFault, DiskFault, ClockFault, EntropyFault, ListenerFault, OutOfMemory}
+use Rattle.sz_commands.specs.Failure.{Failure, FileFault, OutOfMemory}
 use Rattle.sz_commands.specs.View.{failure_of}
 use Rattle.sz_commands.specs.declared.failure.Failure as views
 use Rattle.sz_keys.specs.CheckRan.{IsFaultAt, IsSigned, IsThere, MayAnswer, Paths, answer_over}
@@ -105,14 +105,9 @@ is_there (Some files) path front key = some (bytes_at files path) key
 
 faulty : (paths : Paths) (told : Option FileMap) (failure : Failure) → IsThere told paths.public → IsFaultAt paths.file failure
     → MayAnswer paths told (Err failure)
-faulty paths told Usage there is = absurd is
-faulty paths told (NoFile path) there is = absurd is
 faulty paths told (FileFault path) there is = inr (inl (is, there))
-faulty paths told DiskFault there is = absurd is
-faulty paths told ClockFault there is = absurd is
-faulty paths told EntropyFault there is = absurd is
-faulty paths told ListenerFault there is = absurd is
 faulty paths told OutOfMemory there is = tt
+faulty paths told _ there is = absurd is
 
 pub may_answer : (paths : Paths) (told now : Option FileMap) (public signature : List ℕ) (size : ℕ) (result : Result Checked views.Failure) → now ≡ told
     → IfSome told (λ files. option_map (take 61) (bytes_at files paths.public) ≡ Some public)

@@ -1,2 +1,4 @@
 mod Cuts
 mod Taking
+mod Standing
+mod NextLeaf

@@ -1,3 +1,9 @@
 pub mod CheckLine
 pub mod CheckRan
+pub mod KeyLine
+pub mod KeyMade
+pub mod KeygenRan
+pub mod LeafSpent
+pub mod SignRan
+pub mod SignerFailure
 pub mod View

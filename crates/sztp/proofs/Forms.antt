@@ -17,7 +17,7 @@ use Rattle.clap.specs.declared.error.Error.{Error}
 use Rattle.clap.specs.declared.error.kind.ErrorKind.TheVariants.{OutOfMemory}
 use Rattle.clap.specs.declared.parser.matches.ArgMatches.{ArgMatches}
 use Rattle.sztp.specs.Forms.{argument, form_of, if_faultless, matched, taken}
-use Rattle.sztp.specs.Words.{check_form, check_matched}
+use Rattle.sztp.specs.Words.{Command}
 
 abbrev text : Bor (List ℕ) → List ℕ
 text lent = lent.now
@@ -83,7 +83,7 @@ pub taken_err : (form : App) (texts : List (List ℕ)) (error : Error) → HasKi
 unfolding taken
 taken_err form texts error has other = refused (fault_of form texts) (matches_of form texts) error has other
 
--- what a check is read from, once its words are texts
-pub read_rows : (words : List (List ℕ)) (got : Option (List Row)) → list_all is_utf8 words ≡ true → got ≡ taken check_form words
-    → option_and_then check_matched got ≡ option_and_then check_matched (matched check_form words)
-read_rows words got texts is = rw texts (ap (option_and_then check_matched) is)
+-- what a command is read from, once its words are texts
+pub read_rows : (form : App) (command : List Row → Option Command) (words : List (List ℕ)) (got : Option (List Row)) → list_all is_utf8 words ≡ true
+    → got ≡ taken form words → option_and_then command got ≡ option_and_then command (matched form words)
+read_rows form command words got texts is = rw texts (ap (option_and_then command) is)

@@ -5,15 +5,22 @@ use Rattle.sz_spec.specs.Told.{Appends}
 use Rattle.sz_io.specs.Folder.{FileMap, bytes_at}
 use Rattle.std.specs.Option.{option_map_or}
 use Rattle.sz_lms.specs.Rules.{Rule, hss_first}
-use Rattle.sz_commands.specs.Failure.{Failure, Usage, NoFile, FileFault, DiskFault, ClockFault, EntropyFault, ListenerFault, OutOfMemory}
+use Rattle.sz_commands.specs.Failure.{Failure, Usage, NoFile, FileFault, OutOfMemory}
 use Rattle.sz_commands.specs.Failure as failure
 use Rattle.sz_commands.specs.Printed.{IsPrinted}
 use Rattle.sz_keys.specs.CheckLine.{status_of, text_of}
 use Rattle.sz_keys.specs.CheckRan.{Answer, IsSigned, MayAnswer, Paths, answer_over, is_file_fault}
-use Rattle.sztp.specs.Causes.{LacksFile, HasCauses}
+use Rattle.sz_disk.specs.Disk.{Seen}
+use Rattle.sz_keys.specs.KeyLine as line
+use Rattle.sz_keys.specs.SignRan as sign
+use Rattle.sz_keys.specs.SignRan.{HasSpent}
+use Rattle.sztp.specs.Causes.{DiskRose, LacksDisk, LacksFile, HasCauses}
 use Rattle.sztp.specs.Outside.{Outside}
-use Rattle.sztp.specs.Ran.{EndsBy, Checks, Does, RunOk}
-use Rattle.sztp.specs.Words.{Command, Check, words_of}
+use Rattle.sztp.specs.Ran.{EndsBy, Checks, Says, Does, RunOk, keygen_part, sign_part}
+use Rattle.sztp.specs.Words.{Command, Check, Keygen, Sign, words_of}
+use Rattle.sztp.proofs.KeyLaws.{never-clock, never-listener, never-usage}
+use Rattle.sztp.proofs.KeyLaws.{keygen-disk, keygen-entropy, keygen-file, keygen-possible}
+use Rattle.sztp.proofs.KeyLaws.{sign-disk, sign-entropy, sign-file, sign-files, sign-possible}
 
 -- ---- what was printed
 
@@ -24,61 +31,48 @@ own_status own given text before after (inr refused) output room = elim refused.
 
 -- ---- the answer of a check, by its status
 
+-- a failure's status is neither of these
+not_done : (failed : Failure) → failure.status_of failed ≡ 0 → ⊥
+not_done Usage is = omega arith
+not_done _ is = omega arith
+
+not_invalid : (failed : Failure) → failure.status_of failed ≡ 3 → ⊥
+not_invalid Usage is = omega arith
+not_invalid _ is = omega arith
+
 signed_only : (paths : Paths) (told : Option FileMap) (answer : Answer) → MayAnswer paths told answer → status_of answer ≡ 0
     → IfSome told (λ files. IsSigned files paths)
 signed_only paths None answer may is = tt
 signed_only paths (Some files) (Ok None) may is = may.1
 signed_only paths (Some files) (Ok (Some rule)) may is = absurd (omega arith)
-signed_only paths (Some files) (Err Usage) may is = absurd (omega arith)
-signed_only paths (Some files) (Err (NoFile path)) may is = absurd (omega arith)
-signed_only paths (Some files) (Err (FileFault path)) may is = absurd (omega arith)
-signed_only paths (Some files) (Err DiskFault) may is = absurd (omega arith)
-signed_only paths (Some files) (Err ClockFault) may is = absurd (omega arith)
-signed_only paths (Some files) (Err EntropyFault) may is = absurd (omega arith)
-signed_only paths (Some files) (Err ListenerFault) may is = absurd (omega arith)
-signed_only paths (Some files) (Err OutOfMemory) may is = absurd (omega arith)
+signed_only paths (Some files) (Err failed) may is = absurd (not_done failed is)
 
 unsigned_only : (paths : Paths) (told : Option FileMap) (answer : Answer) → MayAnswer paths told answer → status_of answer ≡ 3
     → IfSome told (λ files. ¬ (IsSigned files paths))
 unsigned_only paths None answer may is = tt
 unsigned_only paths (Some files) (Ok None) may is = absurd (omega arith)
 unsigned_only paths (Some files) (Ok (Some rule)) may is = may.1
-unsigned_only paths (Some files) (Err Usage) may is = absurd (omega arith)
-unsigned_only paths (Some files) (Err (NoFile path)) may is = absurd (omega arith)
-unsigned_only paths (Some files) (Err (FileFault path)) may is = absurd (omega arith)
-unsigned_only paths (Some files) (Err DiskFault) may is = absurd (omega arith)
-unsigned_only paths (Some files) (Err ClockFault) may is = absurd (omega arith)
-unsigned_only paths (Some files) (Err EntropyFault) may is = absurd (omega arith)
-unsigned_only paths (Some files) (Err ListenerFault) may is = absurd (omega arith)
-unsigned_only paths (Some files) (Err OutOfMemory) may is = absurd (omega arith)
+unsigned_only paths (Some files) (Err failed) may is = absurd (not_invalid failed is)
 
 -- an answer that blames neither the folder nor memory is the one over the files
 exact_only : (paths : Paths) (files : FileMap) (answer : Answer) → MayAnswer paths (Some files) answer → (is_file_fault answer ≡ true → ⊥) → status_of answer ≢ 70
     → answer_over files paths ≡ answer
 exact_only paths files (Ok None) may whole room = may.0
 exact_only paths files (Ok (Some rule)) may whole room = may.0
-exact_only paths files (Err Usage) may whole room = absurd may
 exact_only paths files (Err (NoFile path)) may whole room = may.1
 exact_only paths files (Err (FileFault path)) may whole room = absurd (whole refl)
-exact_only paths files (Err DiskFault) may whole room = absurd may
-exact_only paths files (Err ClockFault) may whole room = absurd may
-exact_only paths files (Err EntropyFault) may whole room = absurd may
-exact_only paths files (Err ListenerFault) may whole room = absurd may
 exact_only paths files (Err OutOfMemory) may whole room = absurd (room refl)
+exact_only paths files (Err _) may whole room = absurd may
 
 -- the statuses that a check comes to by itself
 check_status : (paths : Paths) (told : Option FileMap) (answer : Answer) → MayAnswer paths told answer → (n : ℕ) → status_of answer ≡ n
     → (n ≡ 0) ⊎ ((n ≡ 3) ⊎ ((n ≡ 33) ⊎ (n ≡ 70)))
 check_status paths told (Ok None) may n is = inl (sym is)
 check_status paths told (Ok (Some rule)) may n is = inr (inl (sym is))
-check_status paths told (Err Usage) may n is = absurd may
 check_status paths told (Err (NoFile path)) may n is = inr (inr (inl (sym is)))
 check_status paths told (Err (FileFault path)) may n is = inr (inr (inl (sym is)))
-check_status paths told (Err DiskFault) may n is = absurd may
-check_status paths told (Err ClockFault) may n is = absurd may
-check_status paths told (Err EntropyFault) may n is = absurd may
-check_status paths told (Err ListenerFault) may n is = absurd may
 check_status paths told (Err OutOfMemory) may n is = inr (inr (inr (sym is)))
+check_status paths told (Err _) may n is = absurd may
 
 -- ---- a file that isn't there
 
@@ -112,14 +106,10 @@ blamed : (paths : Paths) (told : Option FileMap) (answer : Answer) (before now :
     → status_of answer ≡ 33 → Rose before now ⊎ ((named : List ℕ) × IfSome told (λ files. bytes_at files named ≡ None))
 blamed paths told (Ok None) before now may cause is = absurd (omega arith)
 blamed paths told (Ok (Some rule)) before now may cause is = absurd (omega arith)
-blamed paths told (Err Usage) before now may cause is = absurd may
 blamed paths told (Err (NoFile path)) before now may cause is = inr (absent paths told path may.1)
 blamed paths told (Err (FileFault path)) before now may cause is = inl (cause.rose refl)
-blamed paths told (Err DiskFault) before now may cause is = absurd may
-blamed paths told (Err ClockFault) before now may cause is = absurd may
-blamed paths told (Err EntropyFault) before now may cause is = absurd may
-blamed paths told (Err ListenerFault) before now may cause is = absurd may
 blamed paths told (Err OutOfMemory) before now may cause is = absurd (omega arith)
+blamed paths told (Err _) before now may cause is = absurd may
 
 exact_told : (paths : Paths) (told : Option FileMap) (answer : Answer) (status : ℕ) (before after : Option (List ℕ)) → MayAnswer paths told answer
     → (is_file_fault answer ≡ true → ⊥) → status ≢ 70 → (status ≡ status_of answer) × Appends before after (text_of answer)
@@ -132,7 +122,7 @@ exact_told paths (Some files) answer status before after may whole room printed 
 is_32 : (status : ℕ) → status ≡ 32 → (status == 32) ≡ true
 is_32 status is = rw is refl
 
-module _ {D : Type 0} (before after : Outside D) (status : ℕ) where
+module _ {D : Type 0} (seen : D → Seen) (before after : Outside D) (status : ℕ) where
   -- the five ways in which a check ends
   check_ends : (paths : Paths) → Checks paths before after status
       → (status ≡ 0) ⊎ ((status ≡ 3) ⊎ ((status ≡ 70) ⊎ ((status ≡ 32)
@@ -156,25 +146,48 @@ module _ {D : Type 0} (before after : Outside D) (status : ℕ) where
   failure_ends : (failed : Failure) → EndsBy failed before after status → (status ≡ failure.status_of failed) ⊎ ((status ≡ 32) ⊎ (status ≡ 70))
   failure_ends failed e = elim e.says.printed [ inl printed ↦ inl printed.0 | inr refused ↦ inr refused.0 ]
 
-  pub does_output : (command : Option Command) → Does command before after status → HasCause before.out.faults after.out.faults (status == 32)
+  -- a status that no output gives is the work's own
+  own_is : (own n : ℕ) (text : List ℕ) → Says own text before.out after.out status → status ≡ n → 32 ≢ n → 70 ≢ n → own ≡ n
+  own_is own n text says is output memory =
+      elim says.printed [
+        | inl printed ↦ sym printed.0 ∙ is
+        | inr refused ↦ elim refused.0 [ inl o ↦ absurd (output (sym o ∙ is)) | inr m ↦ absurd (memory (sym m ∙ is)) ]
+      ]
+
+  does_output : (command : Option Command) → Does seen command before after status → HasCause before.out.faults after.out.faults (status == 32)
   does_output None does = does.says.cause
   does_output (Some (Check paths)) does = does.says.cause
+  does_output (Some (Keygen words)) does = does.says.cause
+  does_output (Some (Sign words)) does = does.says.cause
 
-  pub run_output : (words : List (List ℕ)) → RunOk words before after status → HasCause before.out.faults after.out.faults (status == 32)
+  pub run_output : (words : List (List ℕ)) → RunOk seen words before after status → HasCause before.out.faults after.out.faults (status == 32)
   run_output words (inl does) = does_output (words_of words) does
   run_output words (inr memory) = memory.says.cause
 
-  does_unchanged : (command : Option Command) → Does command before after status → after.folder.files ≡ before.folder.files
-  does_unchanged None does = rw does.folder refl
-  does_unchanged (Some (Check paths)) does = does.ran.unchanged
+  does_unchanged : (command : Option Command) (paths : Paths) → Does seen command before after status → command ≡ Some (Check paths)
+      → after.folder.files ≡ before.folder.files
+  does_unchanged command paths does is = (subst (λ (c : Option Command). Does seen c before after status) is does).ran.unchanged
 
-  pub run_unchanged : (words : List (List ℕ)) → RunOk words before after status → after.folder.files ≡ before.folder.files
-  run_unchanged words (inl does) = does_unchanged (words_of words) does
-  run_unchanged words (inr memory) = rw memory.folder refl
+  pub run_unchanged : (words : List (List ℕ)) (paths : Paths) → RunOk seen words before after status → words_of words ≡ Some (Check paths)
+      → after.folder.files ≡ before.folder.files
+  run_unchanged words paths (inl does) is = does_unchanged (words_of words) paths does is
+  run_unchanged words paths (inr memory) is = rw memory.folder refl
 
-  checked : (words : List (List ℕ)) (paths : Paths) → RunOk words before after status → words_of words ≡ Some (Check paths) → status ≢ 70 → status ≢ 32
+  -- a sign changes the files only where its leaf number is spent
+  does_spend : (command : Option Command) (words : sign.Words) → Does seen command before after status → command ≡ Some (Sign words)
+      → (after.folder.files ≡ before.folder.files) ⊎ HasSpent seen words (sign_part before) (sign_part after)
+  does_spend command words does is =
+      let s = subst (λ (c : Option Command). Does seen c before after status) is does in
+      sign-files seen words (sign_part before) (sign_part after) s.answer s.ran
+
+  pub run_spends : (words : List (List ℕ)) (own : sign.Words) → RunOk seen words before after status → words_of words ≡ Some (Sign own)
+      → (after.folder.files ≡ before.folder.files) ⊎ HasSpent seen own (sign_part before) (sign_part after)
+  run_spends words own (inl does) is = does_spend (words_of words) own does is
+  run_spends words own (inr memory) is = inl (rw memory.folder refl)
+
+  checked : (words : List (List ℕ)) (paths : Paths) → RunOk seen words before after status → words_of words ≡ Some (Check paths) → status ≢ 70 → status ≢ 32
       → Checks paths before after status
-  checked words paths (inl does) is room output = subst (λ (c : Option Command). Does c before after status) is does
+  checked words paths (inl does) is room output = subst (λ (c : Option Command). Does seen c before after status) is does
   checked words paths (inr memory) is room output =
       elim (failure_ends OutOfMemory memory) [ inl own ↦ absurd (room own) | inr other ↦ elim other [ inl o ↦ absurd (output o) | inr r ↦ absurd (room r) ] ]
 
@@ -182,19 +195,19 @@ module _ {D : Type 0} (before after : Outside D) (status : ℕ) where
       → (status ≡ status_of c.answer) × Appends before.out.written after.out.written (text_of c.answer)
   own_of paths c room output = own_status (status_of c.answer) status (text_of c.answer) before.out.written after.out.written c.says.printed output room
 
-  pub signed : (words : List (List ℕ)) (paths : Paths) → RunOk words before after status → words_of words ≡ Some (Check paths) → status ≡ 0
+  pub signed : (words : List (List ℕ)) (paths : Paths) → RunOk seen words before after status → words_of words ≡ Some (Check paths) → status ≡ 0
       → IfSome before.folder.files (λ files. IsSigned files paths)
   signed words paths ran is zero_is =
       let c = checked words paths ran is (λ other. omega arith) (λ other. omega arith) in
       signed_only paths before.folder.files c.answer c.ran.may (sym (own_of paths c (λ other. omega arith) (λ other. omega arith)).0 ∙ zero_is)
 
-  pub unsigned : (words : List (List ℕ)) (paths : Paths) → RunOk words before after status → words_of words ≡ Some (Check paths) → status ≡ 3
+  pub unsigned : (words : List (List ℕ)) (paths : Paths) → RunOk seen words before after status → words_of words ≡ Some (Check paths) → status ≡ 3
       → IfSome before.folder.files (λ files. ¬ (IsSigned files paths))
   unsigned words paths ran is three_is =
       let c = checked words paths ran is (λ other. omega arith) (λ other. omega arith) in
       unsigned_only paths before.folder.files c.answer c.ran.may (sym (own_of paths c (λ other. omega arith) (λ other. omega arith)).0 ∙ three_is)
 
-  pub exact : (words : List (List ℕ)) (paths : Paths) → RunOk words before after status → words_of words ≡ Some (Check paths) → status ≢ 32 → status ≢ 70
+  pub exact : (words : List (List ℕ)) (paths : Paths) → RunOk seen words before after status → words_of words ≡ Some (Check paths) → status ≢ 32 → status ≢ 70
       → ¬ (Rose before.folder.faults after.folder.faults) → IfSome before.folder.files (λ files.
       (status ≡ status_of (answer_over files paths)) × Appends before.out.written after.out.written (text_of (answer_over files paths)))
   exact words paths ran is output room stood =
@@ -203,15 +216,21 @@ module _ {D : Type 0} (before after : Outside D) (status : ℕ) where
 
   -- ---- what each status says
 
-  does_usage : (command : Option Command) → Does command before after status → status ≡ 2 → command ≡ None
+  does_usage : (command : Option Command) → Does seen command before after status → status ≡ 2 → command ≡ None
   does_usage None does is = refl
   does_usage (Some (Check paths)) does is =
       elim (check_ends paths does) [
         | inl e ↦ absurd (omega arith)
         | inr f ↦ elim f [ inl e ↦ absurd (omega arith) | inr g ↦ elim g [ inl e ↦ absurd (omega arith) | inr h ↦ elim h [ inl e ↦ absurd (omega arith) | inr e ↦ let e = e.0 in absurd (omega arith) ] ] ]
       ]
+  does_usage (Some (Keygen words)) does is =
+      absurd (never-usage does.answer (keygen-possible seen words (keygen_part before) (keygen_part after) does.answer does.ran)
+      (own_is (line.status_of does.answer) 2 _ does.says is (λ x. omega arith) (λ x. omega arith)))
+  does_usage (Some (Sign words)) does is =
+      absurd (never-usage does.answer (sign-possible seen words (sign_part before) (sign_part after) does.answer does.ran)
+      (own_is (line.status_of does.answer) 2 _ does.says is (λ x. omega arith) (λ x. omega arith)))
 
-  usage_of : (words : List (List ℕ)) → RunOk words before after status → status ≡ 2 → words_of words ≡ None
+  usage_of : (words : List (List ℕ)) → RunOk seen words before after status → status ≡ 2 → words_of words ≡ None
   usage_of words (inl does) is = does_usage (words_of words) does is
   usage_of words (inr memory) is =
       elim (failure_ends OutOfMemory memory) [ inl own ↦ absurd (omega arith) | inr other ↦ elim other [ inl o ↦ absurd (omega arith) | inr r ↦ absurd (omega arith) ] ]
@@ -228,43 +247,94 @@ module _ {D : Type 0} (before after : Outside D) (status : ℕ) where
         | inr p ↦ elim p [ inl o ↦ b (sym o ∙ is) | inr q ↦ elim q [ inl o ↦ f (sym o ∙ is) | inr r ↦ elim r [ inl o ↦ d (sym o ∙ is) | inr o ↦ e (sym o.0 ∙ is) ] ] ]
       ]
 
-  -- no command comes to this status
-  does_never : (command : Option Command) → Does command before after status → (n : ℕ) → status ≡ n → 0 ≢ n → 2 ≢ n → 3 ≢ n → 32 ≢ n → 33 ≢ n → 70 ≢ n → ⊥
-  does_never None does n is a u b d e f = quiet_status Usage 2 refl does n is u d f
-  does_never (Some (Check paths)) does n is a u b d e f = check_never paths does n is a b d e f
-
-  never : (words : List (List ℕ)) → RunOk words before after status → (n : ℕ) → status ≡ n → 0 ≢ n → 2 ≢ n → 3 ≢ n → 32 ≢ n → 33 ≢ n → 70 ≢ n → ⊥
-  never words (inl does) n is a u b d e f = does_never (words_of words) does n is a u b d e f
-  never words (inr memory) n is a u b d e f = quiet_status OutOfMemory 70 refl memory n is f d f
-
-  does_three : (command : Option Command) → Does command before after status → status ≡ 3 → IsSome command
+  does_three : (command : Option Command) → Does seen command before after status → status ≡ 3 → IsSome command
   does_three None does is = absurd (quiet_status Usage 2 refl does 3 is (λ x. omega arith) (λ x. omega arith) (λ x. omega arith))
   does_three (Some command) does is = refl
 
-  three_of : (words : List (List ℕ)) → RunOk words before after status → status ≡ 3 → IsSome (words_of words)
+  three_of : (words : List (List ℕ)) → RunOk seen words before after status → status ≡ 3 → IsSome (words_of words)
   three_of words (inl does) is = does_three (words_of words) does is
   three_of words (inr memory) is = absurd (quiet_status OutOfMemory 70 refl memory 3 is (λ x. omega arith) (λ x. omega arith) (λ x. omega arith))
 
-  does_file : (command : Option Command) → Does command before after status → status ≡ 33 → Rose before.folder.faults after.folder.faults ⊎ LacksFile before
+  does_clock : (command : Option Command) → Does seen command before after status → status ≡ 31 → ⊥
+  does_clock None does is = quiet_status Usage 2 refl does 31 is (λ x. omega arith) (λ x. omega arith) (λ x. omega arith)
+  does_clock (Some (Check paths)) does is =
+      check_never paths does 31 is (λ x. omega arith) (λ x. omega arith) (λ x. omega arith) (λ x. omega arith) (λ x. omega arith)
+  does_clock (Some (Keygen words)) does is =
+      never-clock does.answer (keygen-possible seen words (keygen_part before) (keygen_part after) does.answer does.ran)
+      (own_is (line.status_of does.answer) 31 _ does.says is (λ x. omega arith) (λ x. omega arith))
+  does_clock (Some (Sign words)) does is =
+      never-clock does.answer (sign-possible seen words (sign_part before) (sign_part after) does.answer does.ran)
+      (own_is (line.status_of does.answer) 31 _ does.says is (λ x. omega arith) (λ x. omega arith))
+
+  does_listener : (command : Option Command) → Does seen command before after status → status ≡ 35 → ⊥
+  does_listener None does is = quiet_status Usage 2 refl does 35 is (λ x. omega arith) (λ x. omega arith) (λ x. omega arith)
+  does_listener (Some (Check paths)) does is =
+      check_never paths does 35 is (λ x. omega arith) (λ x. omega arith) (λ x. omega arith) (λ x. omega arith) (λ x. omega arith)
+  does_listener (Some (Keygen words)) does is =
+      never-listener does.answer (keygen-possible seen words (keygen_part before) (keygen_part after) does.answer does.ran)
+      (own_is (line.status_of does.answer) 35 _ does.says is (λ x. omega arith) (λ x. omega arith))
+  does_listener (Some (Sign words)) does is =
+      never-listener does.answer (sign-possible seen words (sign_part before) (sign_part after) does.answer does.ran)
+      (own_is (line.status_of does.answer) 35 _ does.says is (λ x. omega arith) (λ x. omega arith))
+
+  does_disk : (command : Option Command) → Does seen command before after status → status ≡ 30 → DiskRose seen before after
+  does_disk None does is = absurd (quiet_status Usage 2 refl does 30 is (λ x. omega arith) (λ x. omega arith) (λ x. omega arith))
+  does_disk (Some (Check paths)) does is =
+      absurd (check_never paths does 30 is (λ x. omega arith) (λ x. omega arith) (λ x. omega arith) (λ x. omega arith) (λ x. omega arith))
+  does_disk (Some (Keygen words)) does is =
+      keygen-disk seen words (keygen_part before) (keygen_part after) does.answer does.ran
+      (own_is (line.status_of does.answer) 30 _ does.says is (λ x. omega arith) (λ x. omega arith))
+  does_disk (Some (Sign words)) does is =
+      sign-disk seen words (sign_part before) (sign_part after) does.answer does.ran
+      (own_is (line.status_of does.answer) 30 _ does.says is (λ x. omega arith) (λ x. omega arith))
+
+  does_entropy : (command : Option Command) → Does seen command before after status → status ≡ 34 → Rose before.entropy.faults after.entropy.faults
+  does_entropy None does is = absurd (quiet_status Usage 2 refl does 34 is (λ x. omega arith) (λ x. omega arith) (λ x. omega arith))
+  does_entropy (Some (Check paths)) does is =
+      absurd (check_never paths does 34 is (λ x. omega arith) (λ x. omega arith) (λ x. omega arith) (λ x. omega arith) (λ x. omega arith))
+  does_entropy (Some (Keygen words)) does is =
+      keygen-entropy seen words (keygen_part before) (keygen_part after) does.answer does.ran
+      (own_is (line.status_of does.answer) 34 _ does.says is (λ x. omega arith) (λ x. omega arith))
+  does_entropy (Some (Sign words)) does is =
+      absurd (sign-entropy seen words (sign_part before) (sign_part after) does.answer does.ran
+      (own_is (line.status_of does.answer) 34 _ does.says is (λ x. omega arith) (λ x. omega arith)))
+
+  does_file : (command : Option Command) → Does seen command before after status → status ≡ 33
+      → Rose before.folder.faults after.folder.faults ⊎ (LacksFile before ⊎ LacksDisk before)
   does_file None does is = absurd (quiet_status Usage 2 refl does 33 is (λ x. omega arith) (λ x. omega arith) (λ x. omega arith))
   does_file (Some (Check paths)) does is =
       elim (check_ends paths does) [
         | inl e ↦ absurd (omega arith)
-        | inr f ↦ elim f [ inl e ↦ absurd (omega arith) | inr g ↦ elim g [ inl e ↦ absurd (omega arith) | inr h ↦ elim h [ inl e ↦ absurd (omega arith) | inr e ↦ e.1 ] ] ]
+        | inr f ↦ elim f [
+          | inl e ↦ absurd (omega arith)
+          | inr g ↦ elim g [
+            | inl e ↦ absurd (omega arith)
+            | inr h ↦ elim h [
+              | inl e ↦ absurd (omega arith)
+              | inr e ↦ elim e.1 [ inl rose ↦ inl rose | inr absent ↦ inr (inl absent) ]
+            ]
+          ]
+        ]
       ]
+  does_file (Some (Keygen words)) does is =
+      elim (keygen-file seen words (keygen_part before) (keygen_part after) does.answer does.ran
+      (own_is (line.status_of does.answer) 33 _ does.says is (λ x. omega arith) (λ x. omega arith))) [ inl rose ↦ inl rose | inr none ↦ inr (inr none) ]
+  does_file (Some (Sign words)) does is =
+      sign-file seen words (sign_part before) (sign_part after) does.answer does.ran
+      (own_is (line.status_of does.answer) 33 _ does.says is (λ x. omega arith) (λ x. omega arith))
 
-  file_of : (words : List (List ℕ)) → RunOk words before after status → status ≡ 33 → Rose before.folder.faults after.folder.faults ⊎ LacksFile before
-  file_of words (inl does) is = does_file (words_of words) does is
-  file_of words (inr memory) is = absurd (quiet_status OutOfMemory 70 refl memory 33 is (λ x. omega arith) (λ x. omega arith) (λ x. omega arith))
+  -- want of memory as the words were read has none of these statuses
+  memory_not : EndsBy OutOfMemory before after status → (n : ℕ) → status ≡ n → 32 ≢ n → 70 ≢ n → ⊥
+  memory_not memory n is output room = quiet_status OutOfMemory 70 refl memory n is room output room
 
-  pub causes : (words : List (List ℕ)) → RunOk words before after status → HasCauses words before after status
+  pub causes : (words : List (List ℕ)) → RunOk seen words before after status → HasCauses seen words before after status
   causes words ran = record {
     usage = usage_of words ran;
     not_valid = three_of words ran;
-    disk = λ is. absurd (never words ran 30 is (λ x. omega arith) (λ x. omega arith) (λ x. omega arith) (λ x. omega arith) (λ x. omega arith) (λ x. omega arith));
-    clock = λ is. absurd (never words ran 31 is (λ x. omega arith) (λ x. omega arith) (λ x. omega arith) (λ x. omega arith) (λ x. omega arith) (λ x. omega arith));
+    disk = λ is. elim ran [ inl does ↦ does_disk (words_of words) does is | inr memory ↦ absurd (memory_not memory 30 is (λ x. omega arith) (λ x. omega arith)) ];
+    clock = λ is. absurd (elim ran [ inl does ↦ does_clock (words_of words) does is | inr memory ↦ memory_not memory 31 is (λ x. omega arith) (λ x. omega arith) ]);
     output = λ is. (run_output words ran).rose (is_32 status is);
-    file = file_of words ran;
-    entropy = λ is. absurd (never words ran 34 is (λ x. omega arith) (λ x. omega arith) (λ x. omega arith) (λ x. omega arith) (λ x. omega arith) (λ x. omega arith));
-    listener = λ is. absurd (never words ran 35 is (λ x. omega arith) (λ x. omega arith) (λ x. omega arith) (λ x. omega arith) (λ x. omega arith) (λ x. omega arith));
+    file = λ is. elim ran [ inl does ↦ does_file (words_of words) does is | inr memory ↦ absurd (memory_not memory 33 is (λ x. omega arith) (λ x. omega arith)) ];
+    entropy = λ is. elim ran [ inl does ↦ does_entropy (words_of words) does is | inr memory ↦ absurd (memory_not memory 34 is (λ x. omega arith) (λ x. omega arith)) ];
+    listener = λ is. absurd (elim ran [ inl does ↦ does_listener (words_of words) does is | inr memory ↦ memory_not memory 35 is (λ x. omega arith) (λ x. omega arith) ]);
   }

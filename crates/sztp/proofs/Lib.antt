@@ -1,3 +1,4 @@
 mod Forms
+mod KeyLaws
 mod Laws
 mod PlainWords

@@ -2,10 +2,9 @@
 use Rattle.std.specs.Prelude.{◌≡◌, ℕ, List}
 use Rattle.sz_commands.specs.Objects.{FolderSeen, SinkSeen, NetSeen, ListenerSeen, ClockSeen, EntropySeen}
 
--- the disks with their names and each one's count of faults, and the other objects
+-- the disks with their names, and the other objects
 pub record Outside (D : Type 0) : Type 0 where
   pub disks : List (List ℕ × D)
-  pub disk_faults : List ℕ
   pub net : NetSeen
   pub listener : ListenerSeen
   pub folder : FolderSeen
@@ -17,8 +16,13 @@ module _ {D : Type 0} where
   -- all but the folder and the output stay as they are
   pub record OthersStay (before after : Outside D) : Type 0 where
     pub disks : after.disks ≡ before.disks
-    pub disk_faults : after.disk_faults ≡ before.disk_faults
     pub net : after.net ≡ before.net
     pub listener : after.listener ≡ before.listener
     pub clock : after.clock ≡ before.clock
     pub entropy : after.entropy ≡ before.entropy
+
+  -- the network, the listener and the clock stay as they are
+  pub record KeysStay (before after : Outside D) : Type 0 where
+    pub net : after.net ≡ before.net
+    pub listener : after.listener ≡ before.listener
+    pub clock : after.clock ≡ before.clock

@@ -7,8 +7,14 @@ use Rattle.sz_commands.specs.Objects.{SinkSeen}
 use Rattle.sz_commands.specs.Printed.{IsPrinted}
 use Rattle.sz_keys.specs.CheckLine as check
 use Rattle.sz_keys.specs.CheckRan.{Answer, CheckRan, Paths}
-use Rattle.sztp.specs.Outside.{Outside, OthersStay}
-use Rattle.sztp.specs.Words.{Command, Check, words_of}
+use Rattle.sz_disk.specs.Disk.{Seen}
+use Rattle.sz_keys.specs.KeyLine.{keygen_text, sign_text}
+use Rattle.sz_keys.specs.KeyLine as line
+use Rattle.sz_keys.specs.KeygenRan as keygen
+use Rattle.sz_keys.specs.KeyMade as made
+use Rattle.sz_keys.specs.SignRan as sign
+use Rattle.sztp.specs.Outside.{Outside, KeysStay, OthersStay}
+use Rattle.sztp.specs.Words.{Command, Check, Keygen, Sign, words_of}
 
 -- The text of work with this status was printed, and the given status is that of what was printed.
 pub record Says (own : ℕ) (text : List ℕ) (before after : SinkSeen) (given : ℕ) : Type 0 where
@@ -29,10 +35,39 @@ module _ {D : Type 0} where
     pub says : Says (check.status_of answer) (check.text_of answer) before.out after.out status
     pub others : OthersStay before after
 
+  -- what a keygen uses of the outside
+  abbrev pub keygen_part : Outside D → keygen.KeygenSeen D
+  keygen_part outside = record {
+    disks = outside.disks;
+    beside = record { folder = outside.folder; entropy = outside.entropy };
+  }
+
+  -- what a sign uses of it
+  abbrev pub sign_part : Outside D → sign.SignSeen D
+  sign_part outside = record { disks = outside.disks; folder = outside.folder }
+
+module _ {D : Type 0} (seen : D → Seen) where
+  -- a keygen was done over the disks, the folder and the random bytes, and its answer printed
+  pub record Keygens (words : keygen.Words) (before after : Outside D) (status : ℕ) : Type 0 where
+    pub answer : made.Answer
+    pub ran : keygen.KeygenRan seen words (keygen_part before) (keygen_part after) answer
+    pub says : Says (line.status_of answer) (keygen_text answer) before.out after.out status
+    pub others : KeysStay before after
+
+  -- a sign was done over the disks and the folder, and its answer printed
+  pub record Signs (words : sign.Words) (before after : Outside D) (status : ℕ) : Type 0 where
+    pub answer : sign.Answer
+    pub ran : sign.SignRan seen words (sign_part before) (sign_part after) answer
+    pub says : Says (line.status_of answer) (sign_text answer) before.out after.out status
+    pub entropy : after.entropy ≡ before.entropy
+    pub others : KeysStay before after
+
   -- what each command came to, one equation a command
   abbrev pub Does : Option Command → Outside D → Outside D → ℕ → Type 0
   Does None before after status = EndsBy Usage before after status
   Does (Some (Check paths)) before after status = Checks paths before after status
+  Does (Some (Keygen words)) before after status = Keygens words before after status
+  Does (Some (Sign words)) before after status = Signs words before after status
 
   -- The command that the words are was done; or memory ran out as they were read.
   abbrev pub RunOk : List (List ℕ) → Outside D → Outside D → ℕ → Type 0

@@ -1,8 +1,10 @@
 -- What the program's own types stand for in the definitions.
-use Rattle.sz_keys.specs.View.{paths_of}
+use Rattle.sz_keys.specs.View.{keygen_words, paths_of, sign_words}
 use Rattle.sztp.specs.Words as spec
 use Rattle.sztp.specs.declared.command.Command.{Command}
-use Rattle.sztp.specs.declared.command.Command.TheVariants.{Check}
+use Rattle.sztp.specs.declared.command.Command.TheVariants.{Check, Keygen, Sign}
 
 abbrev pub command_of : Command → spec.Command
 command_of (Check paths) = spec.Check (paths_of paths)
+command_of (Keygen words) = spec.Keygen (keygen_words words)
+command_of (Sign words) = spec.Sign (sign_words words)

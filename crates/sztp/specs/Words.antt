@@ -1,14 +1,20 @@
 -- The commands as data, and which command the words after the program's name are.
-use Rattle.std.specs.Prelude.{◌≡◌, ◌≢◌, ℕ, true, List, [], ◌∷◌, Option, None, if◌then◌else◌, codes, slice_index, option_and_then, option_map}
+use Rattle.std.specs.Prelude.{◌≡◌, ◌≢◌, ◌==◌, ◌&&◌, ℕ, Bool, true, List, [], ◌∷◌, Option, Some, None, if◌then◌else◌, codes, length, nat_le, slice_index, option_and_then, option_map}
 use Rattle.std.specs.Str.{bytes_eq, is_utf8}
 use Rattle.clap.specs.Simple.{App}
 use Rattle.clap.specs.Walk.{Row, first_of}
 use Rattle.sz_keys.specs.CheckRan.{Paths}
+use Rattle.sz_keys.specs.KeygenRan as keygen
+use Rattle.sz_keys.specs.SignRan as sign
 use Rattle.sztp.specs.Forms.{form_of, matched}
 
 pub data Command : Type 0 where
   -- `check PUBLIC FILE SIGNATURE`
   Check : Paths → Command
+  -- `keygen LEVELS PUBLIC @KEY`
+  Keygen : keygen.Words → Command
+  -- `sign FILE SIGNATURE @KEY`
+  Sign : sign.Words → Command
 
 -- ---- check
 
@@ -27,12 +33,46 @@ check_matched rows =
     option_map (λ signature. check_of public file signature)
     (first_of (codes "SIGNATURE") rows)) (first_of (codes "FILE") rows)) (first_of (codes "PUBLIC") rows)
 
+-- ---- keygen and sign
+
+-- a word that names a disk begins with `@` (64), and isn't that alone
+abbrev pub is_disk_word : List ℕ → Bool
+is_disk_word word = (slice_index word 0 == 64) && nat_le 2 (length word)
+
+-- the command, where this word names a disk
+abbrev pub with_disk_word : List ℕ → Command → Option Command
+with_disk_word word command = if is_disk_word word then Some command else None
+
+abbrev pub keygen_form : App
+keygen_form = form_of (codes "keygen") (codes "LEVELS" ∷ codes "PUBLIC" ∷ codes "KEY" ∷ [])
+
+-- the keygen of the words that were matched to its arguments
+abbrev pub keygen_matched : List Row → Option Command
+keygen_matched rows =
+    option_and_then (λ levels.
+    option_and_then (λ public.
+    option_and_then (λ key. with_disk_word key (Keygen (record { levels = levels; public = public; key = key })))
+    (first_of (codes "KEY") rows)) (first_of (codes "PUBLIC") rows)) (first_of (codes "LEVELS") rows)
+
+abbrev pub sign_form : App
+sign_form = form_of (codes "sign") (codes "FILE" ∷ codes "SIGNATURE" ∷ codes "KEY" ∷ [])
+
+-- the sign of the words that were matched to its arguments
+abbrev pub sign_matched : List Row → Option Command
+sign_matched rows =
+    option_and_then (λ file.
+    option_and_then (λ signature.
+    option_and_then (λ key. with_disk_word key (Sign (record { file = file; signature = signature; key = key })))
+    (first_of (codes "KEY") rows)) (first_of (codes "SIGNATURE") rows)) (first_of (codes "FILE") rows)
+
 -- ---- all commands
 
 -- the command with this name and these words behind it
 abbrev pub command_named : List ℕ → List (List ℕ) → Option Command
 command_named name words =
     if bytes_eq name (codes "check") then option_and_then check_matched (matched check_form words)
+    else if bytes_eq name (codes "keygen") then option_and_then keygen_matched (matched keygen_form words)
+    else if bytes_eq name (codes "sign") then option_and_then sign_matched (matched sign_form words)
     else None
 
 -- The command that the words are: the first is its name, and the others are what clap matches to its form.

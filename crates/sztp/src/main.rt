@@ -60,6 +60,8 @@ fn null_device<R: Files>(files: &R) -> Option<R::File> {
 }
 
 #[cfg(test)]
+mod key_tests;
+#[cfg(test)]
 mod tests;
 #[cfg(test)]
 mod vector;

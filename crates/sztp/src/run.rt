@@ -11,7 +11,7 @@ use sz_base::{OutOfMemory, Text};
 use sz_commands::{Failure, Status, say_failure};
 use sz_disk::Disk;
 use sz_io::{Clock, Entropy, Folder, Listener, Net, Sink};
-use sz_keys::{check, say_checked};
+use sz_keys::{check, keygen, say_checked, say_made, say_signed, sign};
 use sz_lms_tree::Gate;
 
 /// Runs the program on the words after its name: does the command that they are, and prints.
@@ -27,21 +27,37 @@ pub fn run<
     E: Entropy,
     O: Sink,
 >(
-    _rt: &R,
-    _gate: &G,
+    rt: &R,
+    gate: &G,
     alloc: Global,
     words: &[Text],
     world: &mut World<'a, D, N, L, F, C, E, O>,
 ) -> Status
-    ensures ran { RunOk words.now (⟦<World<'a, D, N, L, F, C, E, O> as Observed<D>>⟧.outside world.old)
+    ensures ran { RunOk D.seen words.now (⟦<World<'a, D, N, L, F, C, E, O> as Observed<D>>⟧.outside world.old)
         (⟦<World<'a, D, N, L, F, C, E, O> as Observed<D>>⟧.outside world.new) result.0 }
-    ensures causes { HasCauses words.now (⟦<World<'a, D, N, L, F, C, E, O> as Observed<D>>⟧.outside world.old)
+    ensures causes { HasCauses D.seen words.now (⟦<World<'a, D, N, L, F, C, E, O> as Observed<D>>⟧.outside world.old)
         (⟦<World<'a, D, N, L, F, C, E, O> as Observed<D>>⟧.outside world.new) result.0 }
 {
     match read_command(alloc, words) {
         Ok(Some(Command::Check(paths))) => {
             let answer = check(alloc, &paths, world.folder);
             say_checked(answer, world.out)
+        }
+        Ok(Some(Command::Keygen(words))) => {
+            let answer = keygen(
+                rt,
+                gate,
+                alloc,
+                &words,
+                world.disks,
+                world.folder,
+                world.entropy,
+            );
+            say_made(answer, world.out)
+        }
+        Ok(Some(Command::Sign(words))) => {
+            let answer = sign(rt, gate, alloc, &words, world.disks, world.folder);
+            say_signed(answer, world.out)
         }
         Ok(None) => say_failure(Failure::Usage, world.out),
         Err(OutOfMemory) => say_failure(Failure::OutOfMemory, world.out),

@@ -16,13 +16,13 @@ use sz_lms_tree::OpenGate;
 
 const WORDS: &[&[u8]] = &[b"check", b"p", b"m", b"s"];
 
-fn text(alloc: Global, bytes: &[u8]) -> Result<Text, OutOfMemory> {
+pub(crate) fn text(alloc: Global, bytes: &[u8]) -> Result<Text, OutOfMemory> {
     let mut text = Text::create(alloc);
     text.append(bytes)?;
     Ok(text)
 }
 
-fn texts(alloc: Global, words: &[&[u8]]) -> Result<Texts, OutOfMemory> {
+pub(crate) fn texts(alloc: Global, words: &[&[u8]]) -> Result<Texts, OutOfMemory> {
     let mut texts = Texts::create(alloc);
     for word in words {
         texts.push(text(alloc, word)?)?;

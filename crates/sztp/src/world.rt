@@ -1,5 +1,4 @@
 //! The outside of the program.
-ghost use Rattle.std.specs.Prelude.{map};
 ghost use Rattle.sztp.specs.Outside.{Outside};
 
 use sz_disk::{Disk, Disks};
@@ -26,7 +25,6 @@ impl<'a, D: Disk, N: Net, L: Listener, F: Folder, C: Clock, E: Entropy, O: Sink>
     for World<'a, D, N, L, F, C, E, O> {
     ghost outside = { λ world. record {
       disks = world.disks.now;
-      disk_faults = map (λ entry. (D.seen entry.1).faults) world.disks.now;
       net = record { faults = N.faults world.net.now; traffic = N.traffic world.net.now };
       listener = record {
         faults = L.faults world.listener.now;

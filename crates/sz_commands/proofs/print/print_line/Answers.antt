@@ -4,7 +4,8 @@ use Rattle.sz_commands.proofs.print.print_line.Goals as goal
 
 pub returns-in_err-write-clause-refused : goal.returns-in_err-write-clause-refused
 returns-in_err-write-clause-refused g c =
-    always_on_err _ (AppendsFront-first _ _ (c.args.front.now ++ c.args.rest.now) (10 ∷ []) (AppendsFront-first _ _ c.args.front.now c.args.rest.now c.in_err-write.ensures.refused))
+    always_on_err _ (AppendsFront-first _ _ (c.args.front.now ++ c.args.rest.now) (10 ∷ [])
+    (AppendsFront-first _ _ c.args.front.now c.args.rest.now c.in_err-write.ensures.refused))
 
 pub returns-in_err-write-2-clause-refused : goal.returns-in_err-write-2-clause-refused
 returns-in_err-write-2-clause-refused g c =

@@ -6,7 +6,7 @@ use Rattle.sztp.proofs.Forms.{read_rows}
 use Rattle.sztp.proofs.command.read_check.Goals as goal
 use Rattle.sztp.specs.Forms.{taken}
 use Rattle.sztp.specs.View.{command_of}
-use Rattle.sztp.specs.Words.{Command, check_form}
+use Rattle.sztp.specs.Words.{Command, check_form, check_matched}
 
 pub returns-in-Some-2 : goal.returns-in-Some-2
 returns-in-Some-2 c =
@@ -15,7 +15,7 @@ returns-in-Some-2 c =
     let form_is : app_of c.in_ok-form.form ≡ check_form = search rules in
     let is = c.in_ok-matches.ensures ∙ ap₂ taken form_is words_are in
     subst (λ (read : Option Command). IfOk c.check_matched.result (λ found. option_map command_of found ≡ read))
-    (read_rows c.args.words.now (Some (rows_of (found_of c.in-Some-2.matches))) texts.1 (rw c.in-Some-2.is at is)) c.check_matched.ensures
+    (read_rows check_form check_matched c.args.words.now (Some (rows_of (found_of c.in-Some-2.matches))) texts.1 (rw c.in-Some-2.is at is)) c.check_matched.ensures
 
 pub returns : goal.returns
 returns c =
@@ -23,4 +23,4 @@ returns c =
     let words_are : map (λ text. text.now) c.as_slice-2.result.now ≡ c.args.words.now = ap (map (λ text. text.now)) c.as_slice-2.ensures.value ∙ texts.0 in
     let form_is : app_of c.in_ok-form.form ≡ check_form = search rules in
     let is = c.in_ok-matches.ensures ∙ ap₂ taken form_is words_are in
-    read_rows c.args.words.now _ texts.1 (rw c.in-None.is at is)
+    read_rows check_form check_matched c.args.words.now _ texts.1 (rw c.in-None.is at is)

@@ -7,4 +7,16 @@ pub returns-in-Ok-Some-Check-clause-ran : goal.returns-in-Ok-Some-Check-clause-r
 returns-in-Ok-Some-Check-clause-ran g c = first_of (search rules, grind arith, grind (arith, common_steps))
 
 pub returns-in-Ok-Some-Check-clause-causes : goal.returns-in-Ok-Some-Check-clause-causes
-returns-in-Ok-Some-Check-clause-causes g c = causes _ _ _ c.args.words.now (returns-in-Ok-Some-Check-clause-ran g c)
+returns-in-Ok-Some-Check-clause-causes g c = causes _ _ _ _ c.args.words.now (returns-in-Ok-Some-Check-clause-ran g c)
+
+pub returns-in-Ok-Some-Keygen-clause-ran : goal.returns-in-Ok-Some-Keygen-clause-ran
+returns-in-Ok-Some-Keygen-clause-ran g c = first_of (search rules, grind arith, grind (arith, common_steps))
+
+pub returns-in-Ok-Some-Keygen-clause-causes : goal.returns-in-Ok-Some-Keygen-clause-causes
+returns-in-Ok-Some-Keygen-clause-causes g c = causes _ _ _ _ c.args.words.now (returns-in-Ok-Some-Keygen-clause-ran g c)
+
+pub returns-in-Ok-Some-Sign-clause-ran : goal.returns-in-Ok-Some-Sign-clause-ran
+returns-in-Ok-Some-Sign-clause-ran g c = first_of (search rules, grind arith, grind (arith, common_steps))
+
+pub returns-in-Ok-Some-Sign-clause-causes : goal.returns-in-Ok-Some-Sign-clause-causes
+returns-in-Ok-Some-Sign-clause-causes g c = causes _ _ _ _ c.args.words.now (returns-in-Ok-Some-Sign-clause-ran g c)
