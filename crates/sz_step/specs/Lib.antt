@@ -1,0 +1,3 @@
+pub mod Boots
+pub mod Lawful
+pub mod Step
