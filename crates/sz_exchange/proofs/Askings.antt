@@ -28,8 +28,9 @@ only_one a c more x adds all =
     ∙ drop_at (left_behind a) (x ∷ []) (length (left_behind a)) refl
 
 -- the connection goes on
-moves : (target : Target) (sent received sent2 received2 : List ℕ) (end end2 : ExchangeEnd) (a b c : Traffic) (d : Standing) → (asking : IsAsking target sent received end a b)
-    → Adds b c [] → c ≡ with_standing b d → d.target ≡ asking.standing.target → d.connection.sent ≡ sent2 → d.connection.received ≡ received2 → d.end ≡ end2
+moves : (target : Target) (sent received sent2 received2 : List ℕ) (end end2 : ExchangeEnd) (a b c : Traffic) (d : Standing)
+    → (asking : IsAsking target sent received end a b) → Adds b c [] → c ≡ with_standing b d
+    → d.target ≡ asking.standing.target → d.connection.sent ≡ sent2 → d.connection.received ≡ received2 → d.end ≡ end2
     → IsAsking target sent2 received2 end2 a c
 moves target sent received sent2 received2 end end2 a b c d asking adds is target_same sent_is received_is end_is =
     let joined = Adds-join a b c (exchange_of asking.standing ∷ []) [] asking.adds adds in
@@ -70,7 +71,8 @@ pub sent_lost : (target : Target) (bytes : List ℕ) (a b c : Traffic) → IsAsk
 sent_lost target bytes a b c asking fails =
     let s = asking.standing in
     let is : (n : ℕ) × (c ≡ with_standing b (ended Lost (sent_on (take n bytes) s))) =
-    subst (λ (o : Option Standing). MatchOption o (c ≡ b) (λ s. (n : ℕ) × (c ≡ with_standing b (ended Lost (sent_on (take n bytes) s))))) asking.stands fails in (
+    subst (λ (o : Option Standing). MatchOption o (c ≡ b)
+    (λ s. (n : ℕ) × (c ≡ with_standing b (ended Lost (sent_on (take n bytes) s))))) asking.stands fails in (
       is.0,
       moves target [] [] (take is.0 bytes) [] Open Lost a b c (ended Lost (sent_on (take is.0 bytes) s)) asking (Adds-refused_send bytes b c fails) is.1 refl
           (ap (λ (l : List ℕ). l ++ take is.0 bytes) asking.sent_is) asking.received_is (ap (λ (e : ExchangeEnd). first_end e Lost) asking.end_is),
@@ -97,15 +99,16 @@ received_more target sent received into count a b c some asking receives =
     let s = asking.standing in
     let same = same_standing target sent received into count a b c asking receives in
     let is : c ≡ with_standing b (record s { connection = with_received count s.connection }) =
-    receives.gives ∙ ap (λ (t : Standing). with_standing b (received_on into count t)) same ∙ ap (λ (t : Standing). with_standing b t) (received_some into count s some) in
+    receives.gives ∙ ap (λ (t : Standing). with_standing b (received_on into count t)) same
+    ∙ ap (λ (t : Standing). with_standing b t) (received_some into count s some) in
     let bytes : take count s.connection.rest.bytes ≡ take count into =
     sym (receives.may.bytes ∙ ap (λ (t : Standing). take count t.connection.rest.bytes) same) in
     moves target sent received sent (received ++ take count into) Open Open a b c (record s { connection = with_received count s.connection }) asking
     (Adds-receive into count b c receives) is refl asking.sent_is
     (ap (λ (l : List ℕ). l ++ take count s.connection.rest.bytes) asking.received_is ∙ ap (λ (l : List ℕ). received ++ l) bytes) asking.end_is
 
-pub received_end : (target : Target) (sent received into : List ℕ) (count : ℕ) (a b c : Traffic) → count ≡ 0 → 0 < length into → IsAsking target sent received Open a b
-    → Receives into count b c → IsAsking target sent received Closed a c
+pub received_end : (target : Target) (sent received into : List ℕ) (count : ℕ) (a b c : Traffic) → count ≡ 0 → 0 < length into
+    → IsAsking target sent received Open a b → Receives into count b c → IsAsking target sent received Closed a c
 received_end target sent received into count a b c none some asking receives =
     let s = asking.standing in
     let same = same_standing target sent received into count a b c asking receives in
@@ -206,7 +209,8 @@ told_to R T f None (Some y) c is step first = absurd (cc)
 told_to R T f (Some x) None c is step first = absurd first
 told_to R T f (Some x) (Some y) c is step first = rw is (step x y first)
 
-pub told_from : (T : Traffic → Traffic → Type 0) (f : Traffic → Traffic) (a b : Option Traffic) → b ≡ option_map f a → ((x : Traffic) → T x (f x)) → WhereTold T a b
+pub told_from : (T : Traffic → Traffic → Type 0) (f : Traffic → Traffic) (a b : Option Traffic) → b ≡ option_map f a
+    → ((x : Traffic) → T x (f x)) → WhereTold T a b
 told_from T f None b is step = is
 told_from T f (Some x) b is step = rw is (step x)
 

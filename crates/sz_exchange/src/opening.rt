@@ -1,19 +1,19 @@
 //! The opening of an exchange.
 
-ghost use Rattle.std.specs.Prelude.{◌≡◌, [], OnOk, IsErrOf};
+ghost use Rattle.std.specs.Prelude.{[], OnOk, IsErrOf};
 ghost use Rattle.std.specs.Option.{option_map};
 ghost use Rattle.sz_base.specs.Fault.{put_failed};
 ghost use Rattle.sz_spec.specs.Cause.{HasCause};
 ghost use Rattle.sz_spec.specs.Told.{WhereTold};
-ghost use Rattle.sz_io.specs.Net.{after_close, Traffic};
+ghost use Rattle.sz_io.specs.Net.{after_close};
 ghost use Rattle.sz_io.specs.declared.exchange.ExchangeEnd.TheVariants.{Open};
 ghost use Rattle.sz_exchange.specs.Exchange.{AddsOne, IsAsking, Loses, MayAdd};
 
 use sz_base::{PutFault, Target};
 use sz_io::Net;
 
-/// Connects to the server and sends it the whole request, so that its answer can be received. `Failed` where the exchange
-/// is lost; a connection that stands after a refusal is the caller's to close.
+/// Connects to the server and sends it the whole request, so that its answer can be received. `Failed` where the
+/// exchange is lost; a connection that stands after a refusal is the caller's to close.
 pub fn open<N: Net>(net: &mut N, target: &Target, request: &[u8]) -> Result<(), PutFault>
     ensures ok { OnOk result (WhereTold (IsAsking target.now request.now [] Open)
         (N.traffic net.old) (N.traffic net.new)) }
