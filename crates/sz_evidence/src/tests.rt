@@ -2,11 +2,9 @@
 //! what runs, and identity files. Messages are made from fixed keys, but for those of other software.
 
 mod made;
-mod others;
 
 use super::*;
 use made::{CONVEYED, Keys, MAKER, Made, OWNER, REDIRECT, RIGHT, plain};
-use others::{ANCHOR, CERTIFICATES, INFORMATION, VOUCHER};
 use std::alloc::Global;
 use std::process::Abort;
 use std::test::Fail;
@@ -14,6 +12,7 @@ use sz_base::{Bytes, Evidence, Identity, ImageFaults, Moment, Seconds, Text, Tex
 use sz_cms::identifier::{CONVEYED_JSON, CONVEYED_XML, ENVELOPED_DATA};
 use sz_conveyed::{BootImage, Handling, Onboarding};
 use sz_json::Name;
+use sz_samples::{ANCHOR, CERTIFICATES, INFORMATION, VOUCHER};
 
 // 2025-01-01, and the last second of each voucher
 const NOW: i64 = 1_735_689_600;

@@ -1,7 +1,7 @@
-//! Evidence that other software made, in base64: the owner's certificate stands below a root, which is pinned.
+//! The evidence of the device `A1`, whose owner's certificate stands below a root, which is pinned.
 
 /// The anchor of the device.
-pub(super) const ANCHOR: &str = "\
+pub const ANCHOR: &str = "\
     MIIGGDCB8aADAgECAgEBMA0GCyqGSIb3DQEJEAMRMBAxDjAMBgNVBAMMBU1ha2VyMB4XDTIwMDEwMTAwMDAwMFoXDTQwMDEwMTAwMDAwMFowEDEO\
     MAwGA1UEAwwFTWFrZXIwUDANBgsqhkiG9w0BCRADEQM/AAQ8AAAAAQAAAAUAAAAE2MGQrNd9/1fALt6hhIEzGim5Hj0bIhL85PYnkINH1JRRVuor\
     ISdBHAfbosUVPEcXo0IwQDAPBgNVHRMBAf8EBTADAQH/MA4GA1UdDwEB/wQEAwIChDAdBgNVHQ4EFgQUjsjBc0tyyLauLP1GK2+jCM3M45AwDQYL\
@@ -23,7 +23,7 @@ pub(super) const ANCHOR: &str = "\
     HFMhNCKCuQ0oRHwK9yPNUUppuO5ORO8qzEAdbpL5lj19qkbnxdfZaUnv2Oi/bqOTNYZyrw==";
 
 /// The conveyed information.
-pub(super) const INFORMATION: &str = "\
+pub const INFORMATION: &str = "\
     MIIGWwYJKoZIhvcNAQcCoIIGTDCCBkgCAQMxDTALBglghkgBZQMEAgEwgYsGCyqGSIb3DQEJEAEroHwEensiaWV0Zi1zenRwLWNvbnZleWVkLWlu\
     Zm86b25ib2FyZGluZy1pbmZvcm1hdGlvbiI6eyJjb25maWd1cmF0aW9uIjoiYUc5emRHNWhiV1VnWVRFSyIsImNvbmZpZ3VyYXRpb24taGFuZGxp\
     bmciOiJyZXBsYWNlIn19oAAxggWiMIIFngIBATAaMBUxEzARBgNVBAMMCk93bmVyIFJvb3QCAQswCwYJYIZIAWUDBAIBoE0wGgYJKoZIhvcNAQkD\
@@ -46,7 +46,7 @@ pub(super) const INFORMATION: &str = "\
     RvZTXFhJCO4bgzat9SI1vJKo75Qgw1sGiwOIRTPMk2nYWVA=";
 
 /// The owner certificate, with the one above it.
-pub(super) const CERTIFICATES: &str = "\
+pub const CERTIFICATES: &str = "\
     MIIMcAYJKoZIhvcNAQcCoIIMYTCCDF0CAQExADALBgkqhkiG9w0BBwGgggxFMIIGGzCB9KADAgECAgELMA0GCyqGSIb3DQEJEAMRMBUxEzARBgNV\
     BAMMCk93bmVyIFJvb3QwHhcNMjAwMTAxMDAwMDAwWhcNNDAwMTAxMDAwMDAwWjARMQ8wDQYDVQQDDAZPd25lcjAwUDANBgsqhkiG9w0BCRADEQM/\
     AAQ8AAAAAQAAAAUAAAAE3pgN3qAo9lvNuUtaiCucNnVQSLyJd6Iw2vPp25iTX3LYkl+HT9Z8+UQbe0pDYdj3oz8wPTAMBgNVHRMBAf8EAjAAMA4G\
@@ -87,7 +87,7 @@ pub(super) const CERTIFICATES: &str = "\
     1Ndfcf67BE9EWtyjVSqcqxtvmgFCc+kbYW+XVaunX8sYMz9elKRVhf4g6poS1VrTLdyQfigYcDU2qcgV9TxTGeqKZnT0311XPL9wP3EgMQA=";
 
 /// The ownership voucher.
-pub(super) const VOUCHER: &str = "\
+pub const VOUCHER: &str = "\
     MIIbGAYJKoZIhvcNAQcCoIIbCTCCGwUCAQMxDTALBglghkgBZQMEAgEwggkVBgsqhkiG9w0BCRABKKCCCQQEggkAeyJpZXRmLXZvdWNoZXI6dm91\
     Y2hlciI6eyJhc3NlcnRpb24iOiJ2ZXJpZmllZCIsImNyZWF0ZWQtb24iOiIyMDIwLTAxLTAxVDAwOjAwOjAwWiIsImRvbWFpbi1jZXJ0LXJldm9j\
     YXRpb24tY2hlY2tzIjpmYWxzZSwiZXhwaXJlcy1vbiI6IjIwNDAtMDEtMDFUMDA6MDA6MDBaIiwicGlubmVkLWRvbWFpbi1jZXJ0IjoiTUlJR0lq\
