@@ -1,5 +1,5 @@
 -- What has come of an image after one more front of a piece.
-use Rattle.std.proofs.Common.{◌≡◌, ◌≢◌, ◌⊎◌, ℕ, zero, suc, ◌+◌, ◌<◌, ◌≤◌, Bool, true, false, IsTrue, List, [], ◌∷◌, ◌++◌, length, take, Option, Some, None, Err, refl, sym, ap, ◌∙◌, subst, inl, inr, arith, length-append}
+use Rattle.std.proofs.Common.{◌≡◌, ◌⊎◌, ℕ, zero, suc, ◌+◌, ◌<◌, ◌≤◌, Bool, true, false, IsTrue, List, [], ◌∷◌, ◌++◌, length, take, Option, Some, None, Err, refl, sym, ap, ◌∙◌, subst, inl, inr, arith, length-append}
 use Rattle.std.proofs.lemmas.Bool.{false≢true}
 use Rattle.std.specs.Option.{option_map}
 use Rattle.sha2.specs.Hashers.{Holds256}
@@ -10,8 +10,9 @@ use Rattle.sz_base.specs.declared.image.ImageFault.{ImageFault}
 use Rattle.sz_base.specs.declared.image.ImageFault.TheVariants.{Uri as NoUri, Lost, EndedEarly, BadHttp, Coding, HeadTooLarge, Status, ImageTooLarge, WrongHash, DiskFault, OutOfMemory}
 use Rattle.sz_disk.specs.Room.{Held, HasPut, IsRestarted, IsSound}
 use Rattle.sz_io.specs.Net.{Traffic, after_close}
-use Rattle.sz_io.specs.declared.exchange.ExchangeEnd.{ExchangeEnd}
-use Rattle.sz_io.specs.declared.exchange.ExchangeEnd.TheVariants.{Open, Lost as LostEnd}
+use Rattle.sz_io.specs.declared.exchange.Exchange.{Exchange}
+use Rattle.sz_exchange.specs.Exchange.{AddsOne, IsAsking}
+use Rattle.sz_exchange.proofs.Askings.{going_end, hears, told_ending}
 use Rattle.sz_uri.specs.Uri.{IsUri}
 use Rattle.sz_uri.specs.declared.uri.Uri.{Uri}
 use Rattle.sz_http.specs.declared.fed.Fed.{Fed}
@@ -19,13 +20,12 @@ use Rattle.sz_http.specs.declared.reading.Reading.{Reading}
 use Rattle.sz_http.specs.declared.side.Side.TheVariants.{Reply}
 use Rattle.sz_http.specs.Reading.{IsWholeAtEnd, Takes}
 use Rattle.sz_image.specs.declared.incoming.Incoming.{Incoming}
-use Rattle.sz_image.specs.Asking.{IsAsking}
-use Rattle.sz_image.specs.Coming.{HasCome, HasReceived, IsComing, IsJudged, StopsFor, TakesFront}
-use Rattle.sz_image.specs.Fetch.{Brings, Fails, FailsFor, Hears, HoldsBody, blames_net, blames_room, is_closed}
+use Rattle.sz_image.specs.Coming.{HasCome, HasReceived, IsAskingFor, IsComing, IsJudged, StopsFor, TakesFront}
+use Rattle.sz_image.specs.Fetch.{Brings, Fails, FailsFor, GivesImage, HearsOf, HoldsBody, blames_net, blames_room}
 use Rattle.sz_image.specs.Reply.{GivesBody, HasStatus, IsRefused}
 use Rattle.sz_image.specs.Request.{request_text}
-use Rattle.sz_image.proofs.Askings.{hears, told_ending}
 use Rattle.sz_image.proofs.Replies.{gives_more, judged_status}
+use Rattle.sz_image.proofs.Rooms.{holds_from, same_restarted}
 
 told_put : (body more : List ℕ) (first held now : Option (List ℕ)) → held ≡ option_map (λ x. body) first → now ≡ option_map (λ x. x ++ more) held
     → now ≡ option_map (λ x. body ++ more) first
@@ -182,47 +182,48 @@ no_cause before now failed same is = record {
 
 -- ---- a fault of a reply, as a download tells it
 
-open_kept : Open ≢ LostEnd
-open_kept same = cc
+-- the connection that stands, over which so much came, and which the server closed or not
+abbrev pub IsAskingTo : Uri → List ℕ → Bool → Traffic → Traffic → Type 0
+IsAskingTo uri bytes closed = IsAsking uri.target (request_text uri) bytes (going_end closed)
 
-ending : (uri : Uri) (hash bytes : List ℕ) (space : ℕ) (end : ExchangeEnd) (fault : ImageFault) (a b : Option Traffic) → end ≢ LostEnd
-    → IsRefused space hash bytes (is_closed end) fault → WhereTold (IsAsking uri (request_text uri) bytes end) a b
-    → WhereTold (Hears uri (λ heard closed. IsRefused space hash heard closed fault)) a (option_map after_close b)
-ending uri hash bytes space end fault a b kept is asking =
-    let Tells = λ (heard : List ℕ) (closed : Bool). IsRefused space hash heard closed fault in
-    told_ending (IsAsking uri (request_text uri) bytes end) (Hears uri Tells) a b (λ x y h. hears uri Tells bytes end x y h kept is) asking
+ending : (uri : Uri) (Tells : List ℕ → Bool → Type 0) (bytes : List ℕ) (closed : Bool) (a b : Option Traffic) → Tells bytes closed
+    → WhereTold (IsAskingTo uri bytes closed) a b → WhereTold (AddsOne (HearsOf uri Tells)) a (option_map after_close b)
+ending uri Tells bytes closed a b is asking =
+    told_ending (IsAskingTo uri bytes closed) (AddsOne (HearsOf uri Tells)) a b
+    (λ x y h. hears uri.target (request_text uri) Tells bytes closed x y h is) asking
 
-pub fails_told : (uri : Uri) (hash bytes : List ℕ) (space : ℕ) (end : ExchangeEnd) (fault : ImageFault) (a b : Option Traffic) → end ≢ LostEnd
-    → IsRefused space hash bytes (is_closed end) fault → WhereTold (IsAsking uri (request_text uri) bytes end) a b
+refusing : (uri : Uri) (hash bytes : List ℕ) (space : ℕ) (closed : Bool) (fault : ImageFault) (a b : Option Traffic) → IsRefused space hash bytes closed fault
+    → WhereTold (IsAskingTo uri bytes closed) a b
+    → WhereTold (AddsOne (HearsOf uri (λ heard closed. IsRefused space hash heard closed fault))) a (option_map after_close b)
+refusing uri hash bytes space closed fault a b is asking = ending uri (λ heard closed. IsRefused space hash heard closed fault) bytes closed a b is asking
+
+pub fails_told : (uri : Uri) (hash bytes : List ℕ) (space : ℕ) (closed : Bool) (fault : ImageFault) (a b : Option Traffic)
+    → IsRefused space hash bytes closed fault → WhereTold (IsAskingTo uri bytes closed) a b
     → Fails uri hash space fault a (option_map after_close b)
-fails_told uri hash bytes space end NoUri a b kept is asking = absurd is
-fails_told uri hash bytes space end Lost a b kept is asking = absurd is
-fails_told uri hash bytes space end EndedEarly a b kept is asking = ending uri hash bytes space end EndedEarly a b kept is asking
-fails_told uri hash bytes space end BadHttp a b kept is asking = ending uri hash bytes space end BadHttp a b kept is asking
-fails_told uri hash bytes space end Coding a b kept is asking = ending uri hash bytes space end Coding a b kept is asking
-fails_told uri hash bytes space end HeadTooLarge a b kept is asking = ending uri hash bytes space end HeadTooLarge a b kept is asking
-fails_told uri hash bytes space end (Status code) a b kept is asking = ending uri hash bytes space end (Status code) a b kept is asking
-fails_told uri hash bytes space end (ImageTooLarge size area) a b kept is asking =
-    ending uri hash bytes space end (ImageTooLarge size area) a b kept is asking
-fails_told uri hash bytes space end (WrongHash found) a b kept is asking = ending uri hash bytes space end (WrongHash found) a b kept is asking
-fails_told uri hash bytes space end DiskFault a b kept is asking = absurd is
-fails_told uri hash bytes space end OutOfMemory a b kept is asking = absurd is
+fails_told uri hash bytes space closed NoUri a b is asking = absurd is
+fails_told uri hash bytes space closed Lost a b is asking = absurd is
+fails_told uri hash bytes space closed EndedEarly a b is asking = refusing uri hash bytes space closed EndedEarly a b is asking
+fails_told uri hash bytes space closed BadHttp a b is asking = refusing uri hash bytes space closed BadHttp a b is asking
+fails_told uri hash bytes space closed Coding a b is asking = refusing uri hash bytes space closed Coding a b is asking
+fails_told uri hash bytes space closed HeadTooLarge a b is asking = refusing uri hash bytes space closed HeadTooLarge a b is asking
+fails_told uri hash bytes space closed (Status code) a b is asking = refusing uri hash bytes space closed (Status code) a b is asking
+fails_told uri hash bytes space closed (ImageTooLarge size area) a b is asking = refusing uri hash bytes space closed (ImageTooLarge size area) a b is asking
+fails_told uri hash bytes space closed (WrongHash found) a b is asking = refusing uri hash bytes space closed (WrongHash found) a b is asking
+fails_told uri hash bytes space closed DiskFault a b is asking = absurd is
+fails_told uri hash bytes space closed OutOfMemory a b is asking = absurd is
 
 pub stops_told : (uri : Uri) (hash bytes : List ℕ) (space : ℕ) (fault : ImageFault) (a b : Option Traffic) → StopsFor space hash bytes fault
-    → WhereTold (IsAsking uri (request_text uri) bytes Open) a b → Fails uri hash space fault a (option_map after_close b)
+    → WhereTold (IsAskingFor uri bytes) a b → Fails uri hash space fault a (option_map after_close b)
 stops_told uri hash bytes space NoUri a b is asking = absurd is
 stops_told uri hash bytes space Lost a b is asking = absurd is
-stops_told uri hash bytes space EndedEarly a b is asking = fails_told uri hash bytes space Open EndedEarly a b open_kept is asking
-stops_told uri hash bytes space BadHttp a b is asking = fails_told uri hash bytes space Open BadHttp a b open_kept is asking
-stops_told uri hash bytes space Coding a b is asking = fails_told uri hash bytes space Open Coding a b open_kept is asking
-stops_told uri hash bytes space HeadTooLarge a b is asking = fails_told uri hash bytes space Open HeadTooLarge a b open_kept is asking
-stops_told uri hash bytes space (Status code) a b is asking = fails_told uri hash bytes space Open (Status code) a b open_kept is asking
-stops_told uri hash bytes space (ImageTooLarge size area) a b is asking =
-    fails_told uri hash bytes space Open (ImageTooLarge size area) a b open_kept is asking
-stops_told uri hash bytes space (WrongHash found) a b is asking = fails_told uri hash bytes space Open (WrongHash found) a b open_kept is asking
-stops_told uri hash bytes space DiskFault a b is asking =
-    told_ending (IsAsking uri (request_text uri) bytes Open) (Hears uri (λ _ _. Unit {0})) a b
-    (λ x y h. hears uri (λ _ _. Unit {0}) bytes Open x y h open_kept tt) asking
+stops_told uri hash bytes space EndedEarly a b is asking = refusing uri hash bytes space false EndedEarly a b is asking
+stops_told uri hash bytes space BadHttp a b is asking = refusing uri hash bytes space false BadHttp a b is asking
+stops_told uri hash bytes space Coding a b is asking = refusing uri hash bytes space false Coding a b is asking
+stops_told uri hash bytes space HeadTooLarge a b is asking = refusing uri hash bytes space false HeadTooLarge a b is asking
+stops_told uri hash bytes space (Status code) a b is asking = refusing uri hash bytes space false (Status code) a b is asking
+stops_told uri hash bytes space (ImageTooLarge size area) a b is asking = refusing uri hash bytes space false (ImageTooLarge size area) a b is asking
+stops_told uri hash bytes space (WrongHash found) a b is asking = refusing uri hash bytes space false (WrongHash found) a b is asking
+stops_told uri hash bytes space DiskFault a b is asking = ending uri (λ _ _. Unit {0}) bytes false a b tt asking
 stops_told uri hash bytes space OutOfMemory a b is asking = absurd is
 
 -- ---- the whole reply
@@ -244,56 +245,56 @@ begins_coming incoming reading held taken none sound hashed headed = record {
   holds = record { space = refl; used = none; bytes = holds_none held.bytes held.used none sound.counted };
 }
 
-pub received_told : (uri : Uri) (incoming : Incoming) (first held : Held) (bytes digest : List ℕ) (end : ExchangeEnd) (a b : Option Traffic) → end ≢ LostEnd
-    → HasCome incoming first held bytes (is_closed end) → ((body : List ℕ) → Holds256 incoming.hasher body → digest ≡ sha256 body)
-    → WhereTold (IsAsking uri (request_text uri) bytes end) a b → HasReceived uri digest first held a (option_map after_close b)
-received_told uri incoming first held bytes digest end a b kept come hashes asking =
-    let Tells = λ (heard : List ℕ) (closed : Bool). GivesBody first.space heard closed come.body in
-    record {
-      body = come.body;
-      holds = come.holds;
-      digest_is = hashes come.body come.hashed;
-      heard = told_ending (IsAsking uri (request_text uri) bytes end) (Hears uri Tells) a b (λ x y h. hears uri Tells bytes end x y h kept come.gives) asking;
-    }
-
-hears_so : (uri : Uri) (Tells So : List ℕ → Bool → Type 0) (a b : Option Traffic) → ((bytes : List ℕ) (closed : Bool) → Tells bytes closed → So bytes closed)
-    → WhereTold (Hears uri Tells) a b → WhereTold (Hears uri So) a b
-hears_so uri Tells So None b so heard = heard
-hears_so uri Tells So (Some x) None so heard = heard
-hears_so uri Tells So (Some x) (Some y) so heard = record {
-  exchange = heard.exchange;
-  asks = heard.asks;
-  sent = heard.sent;
-  kept = heard.kept;
-  tells = so heard.exchange.received (is_closed heard.exchange.end) heard.tells;
+pub received_told : (uri : Uri) (incoming : Incoming) (first held : Held) (bytes digest : List ℕ) (closed : Bool) (a b : Option Traffic)
+    → HasCome incoming first held bytes closed → ((body : List ℕ) → Holds256 incoming.hasher body → digest ≡ sha256 body)
+    → WhereTold (IsAskingTo uri bytes closed) a b → HasReceived uri digest first held a (option_map after_close b)
+received_told uri incoming first held bytes digest closed a b come hashes asking = record {
+  body = come.body;
+  holds = come.holds;
+  digest_is = hashes come.body come.hashed;
+  heard = ending uri (λ heard closed. GivesBody first.space heard closed come.body) bytes closed a b come.gives asking;
 }
 
-told_again : (body : List ℕ) (first begun now : Option (List ℕ)) → begun ≡ option_map (λ (held : List ℕ). []) first
-    → now ≡ option_map (λ (held : List ℕ). body) begun → now ≡ option_map (λ (held : List ℕ). body) first
-told_again body None begun now one two = two ∙ ap (λ (o : Option (List ℕ)). option_map (λ (held : List ℕ). body) o) one
-told_again body (Some x) begun now one two = two ∙ ap (λ (o : Option (List ℕ)). option_map (λ (held : List ℕ). body) o) one
+-- what the exchange that was added is, it also is
+one_so : (P Q : Exchange → Type 0) (a b : Option Traffic) → ((x : Exchange) → P x → Q x) → WhereTold (AddsOne P) a b → WhereTold (AddsOne Q) a b
+one_so P Q None b so told = told
+one_so P Q (Some x) None so told = told
+one_so P Q (Some x) (Some y) so told = (told.0, told.1, so told.0 told.2)
+
+hears_so : (uri : Uri) (Tells So : List ℕ → Bool → Type 0) (x : Exchange) → ((bytes : List ℕ) (closed : Bool) → Tells bytes closed → So bytes closed)
+    → HearsOf uri Tells x → HearsOf uri So x
+hears_so uri Tells So x so heard = record {
+  target_is = heard.target_is;
+  sent = heard.sent;
+  closed = heard.closed;
+  end_is = heard.end_is;
+  tells = so x.received heard.closed heard.tells;
+}
 
 -- the image that was asked for is in the room that was begun anew
 pub brings_of : (uri : Uri) (hash digest : List ℕ) (size : ℕ) (first begun now : Held) (a b : Option Traffic) → IsRestarted first begun
     → HasReceived uri digest begun now a b → digest ≡ hash → size ≡ now.used → Brings uri hash size first now a b
-brings_of uri hash digest size first begun now a b restarted received is size_is = record {
-  body = received.body;
-  size_is = size_is ∙ received.holds.used;
-  holds = record {
-    space = received.holds.space ∙ restarted.space;
-    used = received.holds.used;
-    bytes = told_again received.body first.bytes begun.bytes now.bytes restarted.bytes received.holds.bytes;
-  };
-  hash_is = sym received.digest_is ∙ is;
-  heard = subst (λ (s : ℕ). WhereTold (Hears uri (λ bytes closed. GivesBody s bytes closed received.body)) a b) restarted.space received.heard;
-}
+brings_of uri hash digest size first begun now a b restarted received is size_is =
+    let hashed : sha256 received.body ≡ hash = sym received.digest_is ∙ is in
+    record {
+      body = received.body;
+      size_is = size_is ∙ received.holds.used;
+      holds = holds_from received.body first begun now (same_restarted first begun restarted) received.holds;
+      hash_is = hashed;
+      given =
+          subst (λ (s : ℕ). WhereTold (AddsOne (GivesImage uri hash s received.body)) a b) restarted.space
+          (one_so (HearsOf uri (λ bytes closed. GivesBody begun.space bytes closed received.body)) (GivesImage uri hash begun.space received.body) a b
+          (λ x heard. record { heard = heard; hash_is = hashed }) received.heard);
+    }
 
 pub wrong_of : (uri : Uri) (hash digest : List ℕ) (space : ℕ) (begun now : Held) (a b : Option Traffic) → begun.space ≡ space
     → HasReceived uri digest begun now a b → (digest ≡ hash → ⊥) → Fails uri hash space (WrongHash digest) a b
 wrong_of uri hash digest space begun now a b same received other =
-    subst (λ (s : ℕ). WhereTold (Hears uri (λ bytes closed. IsRefused s hash bytes closed (WrongHash digest))) a b) same
-    (hears_so uri (λ bytes closed. GivesBody begun.space bytes closed received.body) (λ bytes closed. IsRefused begun.space hash bytes closed (WrongHash digest)) a b
-    (λ bytes closed gives. (received.body, gives, received.digest_is, other)) received.heard)
+    let Gives = λ (bytes : List ℕ) (closed : Bool). GivesBody begun.space bytes closed received.body in
+    let Wrong = λ (bytes : List ℕ) (closed : Bool). IsRefused begun.space hash bytes closed (WrongHash digest) in
+    subst (λ (s : ℕ). WhereTold (AddsOne (HearsOf uri (λ bytes closed. IsRefused s hash bytes closed (WrongHash digest)))) a b) same
+    (one_so (HearsOf uri Gives) (HearsOf uri Wrong) a b
+    (λ x heard. hears_so uri Gives Wrong x (λ bytes closed gives. (received.body, gives, received.digest_is, other)) heard) received.heard)
 
 -- ---- a text that is a URI
 

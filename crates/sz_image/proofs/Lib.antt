@@ -1,3 +1,4 @@
 pub mod Replies
-pub mod Askings
+pub mod Rooms
 pub mod Comings
+pub mod Choices

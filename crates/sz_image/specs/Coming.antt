@@ -16,8 +16,8 @@ use Rattle.sz_http.specs.declared.reading.Reading.{Reading}
 use Rattle.sz_http.specs.declared.side.Side.TheVariants.{Reply}
 use Rattle.sz_http.specs.Reading.{Takes}
 use Rattle.sz_image.specs.declared.incoming.Incoming.{Incoming}
-use Rattle.sz_image.specs.Asking.{IsAsking}
-use Rattle.sz_image.specs.Fetch.{Hears, HoldsBody}
+use Rattle.sz_exchange.specs.Exchange.{AddsOne, IsAsking}
+use Rattle.sz_image.specs.Fetch.{HearsOf, HoldsBody}
 use Rattle.sz_image.specs.Reply.{GivesBody, HasStatus, IsRefused}
 use Rattle.sz_image.specs.Request.{request_text}
 
@@ -66,7 +66,11 @@ pub record HasReceived (uri : Uri) (digest : List ℕ) (first held : Held) (befo
   pub body : List ℕ
   pub holds : HoldsBody body first held
   pub digest_is : digest ≡ sha256 body
-  pub heard : WhereTold (Hears uri (λ bytes closed. GivesBody first.space bytes closed body)) before now
+  pub heard : WhereTold (AddsOne (HearsOf uri (λ bytes closed. GivesBody first.space bytes closed body))) before now
+
+-- the whole request for this URI was sent, and so much was received, over the connection that stands
+abbrev pub IsAskingFor : Uri → List ℕ → Traffic → Traffic → Type 0
+IsAskingFor uri received = IsAsking uri.target (request_text uri) received Open
 
 -- So much of the reply came over a connection that stood with the whole request sent.
 pub record IsReceiving (incoming : Incoming) (reading : Reading) (first held : Held) (begun now : Option Traffic)
@@ -74,5 +78,5 @@ pub record IsReceiving (incoming : Incoming) (reading : Reading) (first held : H
   pub bytes : List ℕ
   pub coming : IsComing incoming reading first held bytes
   pub asking : (uri : Uri) (before : Option Traffic)
-      → WhereTold (IsAsking uri (request_text uri) [] Open) before begun
-      → WhereTold (IsAsking uri (request_text uri) bytes Open) before now
+      → WhereTold (IsAskingFor uri []) before begun
+      → WhereTold (IsAskingFor uri bytes) before now

@@ -1,5 +1,5 @@
 pub mod Request
 pub mod Reply
 pub mod Fetch
-pub mod Asking
 pub mod Coming
+pub mod Downloads

@@ -1,16 +1,13 @@
 //! The download of an image from one URI.
 
-ghost use Rattle.std.specs.Prelude.{◌≡◌, ◌<◌, ℕ, false, List, [], length, Err, IfOk, IfErr, OnOk};
+ghost use Rattle.std.specs.Prelude.{◌≡◌, ◌<◌, length, IfOk, IfErr};
 ghost use Rattle.std.specs.Option.{option_map};
 ghost use Rattle.sz_spec.specs.Cause.{HasCause};
-ghost use Rattle.sz_spec.specs.Told.{WhereTold};
 ghost use Rattle.sz_io.specs.Net.{after_close};
-ghost use Rattle.sz_io.specs.declared.exchange.ExchangeEnd.TheVariants.{Open};
 ghost use Rattle.sz_http.specs.Reading.{side_of};
 ghost use Rattle.sz_uri.specs.Uri.{IsUri};
 ghost use Rattle.sz_uri.specs.declared.uri.Uri.{Uri as AnyUri};
-ghost use Rattle.sz_image.specs.Asking.{IsAsking};
-ghost use Rattle.sz_image.specs.Fetch.{Brings, Fails, FailsFor, blames_net, blames_room};
+ghost use Rattle.sz_image.specs.Fetch.{Brings, Fails, FailsFor, IsSameRoom, blames_net, blames_room};
 ghost use Rattle.sz_image.specs.Request.{request_text};
 
 use crate::receive::receive;
@@ -18,6 +15,7 @@ use crate::request::request;
 use std::alloc::Global;
 use sz_base::{BaseFault, ImageFault, PutFault, Text};
 use sz_disk::Room;
+use sz_exchange::open;
 use sz_http::{Reading, Side};
 use sz_io::Net;
 use sz_uri::Uri;
@@ -44,7 +42,7 @@ pub fn fetch<N: Net, R: Room>(
         (N.traffic net.old) (N.traffic net.new)) }
     ensures lost { HasCause (N.faults net.old) (N.faults net.new) (blames_net result) }
     ensures disk_fault { HasCause (R.held room.old).faults (R.held room.new).faults (blames_room result) }
-    ensures led { R.led room.old room.new × ((R.held room.new).space ≡ (R.held room.old).space) }
+    ensures led { R.led room.old room.new × IsSameRoom (R.held room.old) (R.held room.new) }
     ensures side { side_of buffer.new ≡ Side.Reply }
 {
     let uri = match Uri::read(alloc, uri.as_slice()) {
@@ -88,12 +86,13 @@ fn exchange<N: Net, R: Room>(
         (N.traffic net.old) (option_map after_close (N.traffic net.new))) }
     ensures lost { HasCause (N.faults net.old) (N.faults net.new) (blames_net result) }
     ensures disk_fault { HasCause (R.held room.old).faults (R.held room.new).faults (blames_room result) }
-    ensures led { R.led room.old room.new × ((R.held room.new).space ≡ (R.held room.old).space) }
+    ensures led { R.led room.old room.new × IsSameRoom (R.held room.old) (R.held room.new) }
     ensures side { side_of reading.new ≡ Side.Reply }
 {
-    match ask(net, uri, request) {
+    match open(net, &uri.target, request) {
         Ok(()) => {}
-        Err(fault) => return Err(fault),
+        Err(PutFault::Failed) => return Err(ImageFault::Lost),
+        Err(PutFault::OutOfMemory) => return Err(ImageFault::OutOfMemory),
     }
     room.restart();
     reading.begin(room.space());
@@ -101,27 +100,5 @@ fn exchange<N: Net, R: Room>(
         Ok(found) if found == *hash => Ok(room.used()),
         Ok(found) => Err(ImageFault::WrongHash { found }),
         Err(fault) => Err(fault),
-    }
-}
-
-// Connects to the server, and sends it the request.
-fn ask<N: Net>(net: &mut N, uri: &Uri, request: &[u8]) -> Result<(), ImageFault>
-    requires { request.now ≡ request_text uri.now }
-    ensures ok { OnOk result (WhereTold (IsAsking uri.now (request_text uri.now) [] Open)
-        (N.traffic net.old) (N.traffic net.new)) }
-    ensures refused { (hash : List ℕ) (space : ℕ) → IfErr result (λ fault. Fails uri.now hash space fault
-        (N.traffic net.old) (option_map after_close (N.traffic net.new))) }
-    ensures lost { HasCause (N.faults net.old) (N.faults net.new) (blames_net result) }
-    ensures sound { IfErr result (λ fault. blames_room {T = ℕ} (Err fault) ≡ false) }
-{
-    match net.connect(&uri.target) {
-        Ok(()) => {}
-        Err(PutFault::Failed) => return Err(ImageFault::Lost),
-        Err(PutFault::OutOfMemory) => return Err(ImageFault::OutOfMemory),
-    }
-    match net.send(request) {
-        Ok(()) => Ok(()),
-        Err(PutFault::Failed) => Err(ImageFault::Lost),
-        Err(PutFault::OutOfMemory) => Err(ImageFault::OutOfMemory),
     }
 }

@@ -9,7 +9,7 @@ ghost use Rattle.sz_http.specs.Reading.{Takes, side_of};
 ghost use Rattle.sz_head.specs.Head.{HasNoHead};
 ghost use Rattle.sz_head.specs.declared.kind.Kind.TheVariants.{Reply as ReplyKind};
 ghost use Rattle.sz_image.specs.Coming.{Comes, HasCome, IsComing, IsJudged, StopsFor, TakesFront};
-ghost use Rattle.sz_image.specs.Fetch.{HoldsBody, blames_room};
+ghost use Rattle.sz_image.specs.Fetch.{HoldsBody, IsSameRoom, blames_room};
 ghost use Rattle.sz_image.specs.Reply.{HasStatus, IsRefused};
 
 use crate::head::{framing, refusal};
@@ -51,8 +51,7 @@ impl Incoming {
             → IfOk result (λ whole. Comes whole self.new reading.new first (R.held room.new) (bytes ++ piece.now)) }
         ensures refused { (first : Held) (hash bytes : List ℕ)
             → IsComing self.old reading.old first (R.held room.old) bytes → IfErr result (StopsFor first.space hash (bytes ++ piece.now)) }
-        ensures space { (R.held room.new).space ≡ (R.held room.old).space }
-        ensures led { R.led room.old room.new }
+        ensures led { R.led room.old room.new × IsSameRoom (R.held room.old) (R.held room.new) }
         ensures cause { HasCause (R.held room.old).faults (R.held room.new).faults (blames_room result) }
         ensures side { side_of reading.new ≡ side_of reading.old }
     {
@@ -154,7 +153,7 @@ impl Incoming {
         ensures hashed { (before : List ℕ) → Holds256 self.old.hasher before
             → OnOk result (Holds256 self.new.hasher (before ++ body.now)) }
         ensures refused { IfErr result (λ fault. (fault ≡ ImageFault.DiskFault)
-            × ((R.held room.new).space ≡ (R.held room.old).space)) }
+            × IsSameRoom (R.held room.old) (R.held room.new)) }
         ensures led { R.led room.old room.new }
         ensures cause { HasCause (R.held room.old).faults (R.held room.new).faults (blames_room result) }
         ensures headed { self.new.headed ≡ self.old.headed }

@@ -5,13 +5,10 @@ ghost use Rattle.std.specs.Option.{option_map};
 ghost use Rattle.sz_spec.specs.Cause.{HasCause};
 ghost use Rattle.sz_spec.specs.Told.{WhereTold};
 ghost use Rattle.sz_io.specs.Net.{Traffic, after_close};
-ghost use Rattle.sz_io.specs.declared.exchange.ExchangeEnd.TheVariants.{Open};
 ghost use Rattle.sz_http.specs.Reading.{Takes, side_of};
 ghost use Rattle.sz_uri.specs.declared.uri.Uri.{Uri};
-ghost use Rattle.sz_image.specs.Asking.{IsAsking};
-ghost use Rattle.sz_image.specs.Coming.{HasReceived};
-ghost use Rattle.sz_image.specs.Fetch.{Fails, blames_net, blames_room};
-ghost use Rattle.sz_image.specs.Request.{request_text};
+ghost use Rattle.sz_image.specs.Coming.{HasReceived, IsAskingFor};
+ghost use Rattle.sz_image.specs.Fetch.{Fails, IsSameRoom, blames_net, blames_room};
 
 use crate::incoming::Incoming;
 use sz_base::ImageFault;
@@ -30,15 +27,15 @@ pub(crate) fn receive<N: Net, R: Room>(
     requires buffer { 0 < length piece.old }
     requires began { Takes reading.old Side.Reply (R.held room.old).space [] false [] × ((R.held room.old).used ≡ 0) }
     ensures ok { (uri : Uri) (before : Option Traffic)
-        → WhereTold (IsAsking uri (request_text uri) [] Open) before (N.traffic net.old)
+        → WhereTold (IsAskingFor uri []) before (N.traffic net.old)
         → IfOk result (λ digest. HasReceived uri digest (R.held room.old) (R.held room.new) before
         (option_map after_close (N.traffic net.new))) }
     ensures refused { (uri : Uri) (hash : List ℕ) (before : Option Traffic)
-        → WhereTold (IsAsking uri (request_text uri) [] Open) before (N.traffic net.old)
+        → WhereTold (IsAskingFor uri []) before (N.traffic net.old)
         → IfErr result (λ fault. Fails uri hash (R.held room.old).space fault before
         (option_map after_close (N.traffic net.new))) }
     ensures lost { HasCause (N.faults net.old) (N.faults net.new) (blames_net result) }
-    ensures led { R.led room.old room.new × ((R.held room.new).space ≡ (R.held room.old).space) }
+    ensures led { R.led room.old room.new × IsSameRoom (R.held room.old) (R.held room.new) }
     ensures disk_fault { HasCause (R.held room.old).faults (R.held room.new).faults (blames_room result) }
     ensures side { side_of reading.new ≡ Side.Reply }
 {

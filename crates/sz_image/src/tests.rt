@@ -2,10 +2,10 @@
 
 ghost use Rattle.std.specs.Prelude.{◌≡◌, ◌≤◌, ◌<◌, ◌^◌, length, Some};
 
-use crate::fetch;
+use crate::{NoImage, fetch, fetch_first};
 use std::alloc::Global;
 use std::test::Fail;
-use sz_base::{Bytes, Calls, Failed, ImageFault, Text, colon_hex};
+use sz_base::{Bytes, Calls, Failed, ImageFault, Text, Texts, colon_hex};
 use sz_disk::Room;
 use sz_http::{Reading, Side};
 use sz_io::{Script, ScriptNet, Scripts};
@@ -26,10 +26,11 @@ const SMALL: &[u8] =
 // The bytes of a large image.
 const AREA: u64 = 2_097_152;
 
-// A room in memory.
+// A room in memory, where each put fails if it is broken.
 #[derive(Drop)]
 struct Pad {
     space: u64,
+    broken: bool,
     bytes: Vec<u8>,
     faults: u64,
     ghost word: { space < 2 ^ 64 },
@@ -71,7 +72,7 @@ impl Room for Pad {
     }
 
     fn put(&mut self, bytes: &[u8]) -> Result<(), Failed> {
-        if self.bytes.extend_from_slice(bytes).is_ok() {
+        if !self.broken && self.bytes.extend_from_slice(bytes).is_ok() {
             return Ok(());
         }
         self.faults = self.faults.saturating_add(1);
@@ -82,6 +83,7 @@ impl Room for Pad {
 fn empty_room(alloc: Global, space: u64) -> Pad {
     Pad {
         space,
+        broken: false,
         bytes: Vec::new(alloc),
         faults: 0,
     }
@@ -95,6 +97,43 @@ fn network(alloc: Global, reply: Bytes, closed: bool) -> Result<ScriptNet, Fail>
         closed,
     })?;
     Ok(ScriptNet::create(alloc, answers, Calls::create(alloc)))
+}
+
+// A network with these replies in turn, of which each connection is closed behind it.
+fn servers(alloc: Global, replies: &[&[u8]]) -> Result<ScriptNet, Fail> {
+    let mut answers = Scripts::create(alloc);
+    for reply in replies {
+        answers.push(Script {
+            bytes: Bytes::from_slice(alloc, reply)?,
+            closed: true,
+        })?;
+    }
+    Ok(ScriptNet::create(alloc, answers, Calls::create(alloc)))
+}
+
+// Two URIs that can be asked, and one that can't.
+fn three_uris(alloc: Global) -> Result<Texts, Fail> {
+    let mut uris = Texts::create(alloc);
+    for uri in [b"http://a/i" as &[u8], b"http://b/i", b"ftp://c/i"] {
+        uris.push(Text::from_slice(alloc, uri)?)?;
+    }
+    Ok(uris)
+}
+
+// What the download of `abc` from the three URIs comes to: its size, or each URI's fault; nothing after another end.
+fn first_of(
+    alloc: Global,
+    net: &mut ScriptNet,
+    room: &mut Pad,
+) -> Result<Result<u64, Vec<ImageFault>>, Fail> {
+    let uris = three_uris(alloc)?;
+    let hash = colon_hex(ABC).unwrap_or([0; 32]);
+    let mut buffer = Reading::create(alloc, Side::Reply, 0)?;
+    match fetch_first(alloc, net, room, &uris, &hash, &mut buffer) {
+        Ok(size) => Ok(Ok(size)),
+        Err(NoImage::Refused(faults)) => Ok(Err(faults.into_vec())),
+        Err(_) => Ok(Err(Vec::new(alloc))),
+    }
 }
 
 // What the download of the image with this digest comes to, where the server sends this reply.
@@ -268,5 +307,67 @@ fn the_request_asks_for_path_and_query(rt: HostRuntime) -> Result<(), Fail> {
     let text = sent(rt.alloc(), b"https://H/a?b#c")?;
     assert!(rt; text.is_some_and(|text| text.as_slice() == request));
     assert!(rt; sent(rt.alloc(), b"ftp://h/a")?.is_none());
+    Ok(())
+}
+
+#[test]
+fn the_first_uri_that_gives_the_image_is_the_last_asked(rt: HostRuntime) -> Result<(), Fail> {
+    let alloc = rt.alloc();
+    let abc = b"HTTP/1.1 200 OK\r\nContent-Length: 3\r\n\r\nabc" as &[u8];
+    let abd = b"HTTP/1.1 200 OK\r\nContent-Length: 3\r\n\r\nabd" as &[u8];
+    let full = b"HTTP/1.0 200 OK\r\n\r\nabcde" as &[u8];
+    let over = b"HTTP/1.0 200 OK\r\n\r\nabcdef" as &[u8];
+    let short = b"HTTP/1.1 200 OK\r\nTransfer-Encoding: chunked\r\n\r\n2\r\nab\r\n" as &[u8];
+    let absent = b"HTTP/1.1 404 Not Found\r\nContent-Length: 0\r\n\r\n" as &[u8];
+    let rows: [([&[u8]; 2], Result<u64, [ImageFault; 3]>, &[u8], usize); 4] = [
+        ([abc, abd], Ok(3), b"abc", 1),
+        ([full, abc], Ok(3), b"abc", 2),
+        (
+            [absent, abd],
+            Err([
+                ImageFault::Status { code: 404 },
+                ImageFault::WrongHash {
+                    found: colon_hex(ABD).unwrap_or([0; 32]),
+                },
+                ImageFault::Uri,
+            ]),
+            b"abd",
+            2,
+        ),
+        (
+            [over, short],
+            Err([
+                ImageFault::ImageTooLarge { size: 6, area: 5 },
+                ImageFault::EndedEarly,
+                ImageFault::Uri,
+            ]),
+            b"ab",
+            2,
+        ),
+    ];
+    for (replies, want, held, asked) in &rows {
+        let mut net = servers(alloc, replies)?;
+        let mut room = empty_room(alloc, 5);
+        match (first_of(alloc, &mut net, &mut room)?, want) {
+            (Ok(size), Ok(wanted)) => assert_eq!(rt; size, *wanted),
+            (Err(faults), Err(wanted)) => assert_eq!(rt; faults.as_slice(), wanted.as_slice()),
+            _ => return Err("another end".into()),
+        }
+        assert_eq!(rt; room.bytes.as_slice(), *held);
+        assert_eq!(rt; net.past().len(), *asked);
+    }
+    Ok(())
+}
+
+#[test]
+fn a_fault_of_the_room_ends_the_download(rt: HostRuntime) -> Result<(), Fail> {
+    let alloc = rt.alloc();
+    let abc = b"HTTP/1.1 200 OK\r\nContent-Length: 3\r\n\r\nabc" as &[u8];
+    let mut net = servers(alloc, &[abc, abc])?;
+    let mut room = empty_room(alloc, 5);
+    room.broken = true;
+    let answer = first_of(alloc, &mut net, &mut room)?;
+    assert!(rt; answer.is_err_and(|faults| faults.is_empty()));
+    assert_eq!(rt; (room.faults, net.past().len()), (1, 1));
     Ok(())
 }

@@ -4,8 +4,8 @@ use Rattle.std.proofs.lemmas.Result.{IfErr-weaker, IfOk-weaker}
 use Rattle.sz_base.specs.declared.fault.BaseFault.TheVariants.{Form}
 use Rattle.sz_io.specs.Net.{Traffic}
 use Rattle.sz_uri.specs.Uri.{IsUri}
-use Rattle.sz_image.specs.Fetch.{Brings, Fails, MayAsk}
-use Rattle.sz_image.proofs.Askings.{asks_nothing, told_same}
+use Rattle.sz_image.specs.Fetch.{Brings, Fails}
+use Rattle.sz_image.proofs.Choices.{adds_nothing}
 use Rattle.sz_image.proofs.Comings.{fails_for}
 use Rattle.sz_image.proofs.download.fetch.Goals as goal
 
@@ -15,13 +15,13 @@ returns-in-Err-Form-clause-refused g c =
     (λ uri is. c.read.ensures.refused form uri (subst (λ (text : List ℕ). IsUri text uri) (sym c.as_slice.ensures) is), refl)
 
 pub returns-in-Err-OutOfMemory-clause-refused : goal.returns-in-Err-OutOfMemory-clause-refused
-returns-in-Err-OutOfMemory-clause-refused g c = told_same MayAsk (g.N.Net.traffic c.args.net.now) asks_nothing
+returns-in-Err-OutOfMemory-clause-refused g c = adds_nothing (g.N.Net.traffic c.args.net.now)
 
 pub returns-in_default-clause-refused : goal.returns-in_default-clause-refused
-returns-in_default-clause-refused g c = told_same MayAsk (g.N.Net.traffic c.args.net.now) asks_nothing
+returns-in_default-clause-refused g c = adds_nothing (g.N.Net.traffic c.args.net.now)
 
 pub returns-in_default-vec-clause-refused : goal.returns-in_default-vec-clause-refused
-returns-in_default-vec-clause-refused g c = told_same MayAsk (g.N.Net.traffic c.args.net.now) asks_nothing
+returns-in_default-vec-clause-refused g c = adds_nothing (g.N.Net.traffic c.args.net.now)
 
 pub returns-clause-ok : goal.returns-clause-ok
 returns-clause-ok g c =

@@ -6,6 +6,7 @@ use Rattle.sz_image.specs.Coming.{HasCome, IsComing}
 use Rattle.sz_image.specs.Reply.{IsRefused}
 use Rattle.sz_image.proofs.Comings.{blameless_room, came_more, came_whole, front_of, has_room, moved, no_cause, refusal_of, stops_for}
 use Rattle.sz_image.proofs.Replies.{refused_cut}
+use Rattle.sz_image.proofs.Rooms.{same_on, same_put}
 use Rattle.sz_image.proofs.incoming.Incoming.take.Goals as goal
 
 pub returns-in-Err-clause-refused : goal.returns-in-Err-clause-refused
@@ -118,8 +119,23 @@ loop-at-preserved g c =
           (came_more c.loop-at.self c.take_front.new.self c.put.new.self c.loop-at.reading c.take_front.new.reading first (g.R.Room.held c.loop-at.room)
           (g.R.Room.held c.put.new.room) (bytes ++ take at piece) rest fed (c.loop-at.invariant.coming first bytes given) (took first bytes given)
           c.take_front.ensures.hasher c.put.ensures.headed c.in-Ok-put.ensures.hashed c.in-Ok-put.ensures.ok);
-      space = c.in-Ok-put.ensures.ok.space ∙ c.loop-at.invariant.space;
+      same = same_on (g.R.Room.held c.args.room.now) (g.R.Room.held c.loop-at.room) (g.R.Room.held c.put.new.room) c.loop-at.invariant.same
+          (same_put fed.body.now (g.R.Room.held c.loop-at.room) (g.R.Room.held c.put.new.room) c.in-Ok-put.ensures.ok);
       led = g.met.R.Room.led_on c.args.room.now c.loop-at.room c.put.new.room c.loop-at.invariant.led c.put.ensures.led;
       faults = c.in-Ok-put.ensures.cause.stood refl ∙ c.loop-at.invariant.faults;
       side = c.take_front.ensures.side ∙ c.loop-at.invariant.side;
     }
+
+pub returns-in-Err-put-clause-led : goal.returns-in-Err-put-clause-led
+returns-in-Err-put-clause-led g c = (
+  g.met.R.Room.led_on c.args.room.now c.loop-at.room c.put.new.room c.loop-at.invariant.led c.put.ensures.led,
+  same_on (g.R.Room.held c.args.room.now) (g.R.Room.held c.loop-at.room) (g.R.Room.held c.put.new.room) c.loop-at.invariant.same
+      c.in-Err-put.ensures.refused.1,
+)
+
+pub returns-then-fed-clause-led : goal.returns-then-fed-clause-led
+returns-then-fed-clause-led g c = (
+  g.met.R.Room.led_on c.args.room.now c.loop-at.room c.put.new.room c.loop-at.invariant.led c.put.ensures.led,
+  same_on (g.R.Room.held c.args.room.now) (g.R.Room.held c.loop-at.room) (g.R.Room.held c.put.new.room) c.loop-at.invariant.same
+      (same_put c.in-Ok.fed.body.now (g.R.Room.held c.loop-at.room) (g.R.Room.held c.put.new.room) c.in-Ok-put.ensures.ok),
+)

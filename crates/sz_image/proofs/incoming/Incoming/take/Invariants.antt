@@ -2,6 +2,7 @@ use Rattle.std.proofs.Common.{◌≡◌, ◌≤◌, ◌-◌, ℕ, List, ◌++◌
 use Rattle.sz_disk.specs.Room.{Held}
 use Rattle.sz_http.specs.Reading.{side_of}
 use Rattle.sz_image.specs.Coming.{IsComing}
+use Rattle.sz_image.specs.Fetch.{IsSameRoom}
 use Rattle.sz_image.proofs.incoming.Incoming.take.Given as goal
 
 -- so much of the piece was taken
@@ -10,7 +11,7 @@ invariant-loop-at g l = record {
   within : l.at ≤ length l.piece;
   coming : (first : Held) (bytes : List ℕ) → IsComing l.fn.self l.fn.reading first (g.R.Room.held l.fn.room) bytes
       → IsComing l.self l.reading first (g.R.Room.held l.room) (bytes ++ take l.at l.piece);
-  space : (g.R.Room.held l.room).space ≡ (g.R.Room.held l.fn.room).space;
+  same : IsSameRoom (g.R.Room.held l.fn.room) (g.R.Room.held l.room);
   led : g.R.Room.led l.fn.room l.room;
   faults : (g.R.Room.held l.room).faults ≡ (g.R.Room.held l.fn.room).faults;
   side : side_of l.reading ≡ side_of l.fn.reading;

@@ -1,0 +1,2 @@
+mod NeverLost
+mod Visits
