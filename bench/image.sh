@@ -56,10 +56,16 @@ use sz_state::{Held, attach, init, layout, staging};
 
 fn main(rt: HostRuntime) -> ExitCode {
     let alloc = rt.alloc();
-    let Some([uri, digest, path]) = three_words(&rt) else {
+    let Some(uri) = word(&rt, 1) else {
+        return ExitCode::from(2);
+    };
+    let Some(digest) = word(&rt, 2) else {
         return ExitCode::from(2);
     };
     let Some(hash) = colon_hex(digest.as_slice()) else {
+        return ExitCode::from(2);
+    };
+    let Some(path) = word(&rt, 3) else {
         return ExitCode::from(2);
     };
     let mut disk = FileDisk::create(&rt, alloc, path);
@@ -73,18 +79,11 @@ fn main(rt: HostRuntime) -> ExitCode {
     }
 }
 
-// The three words behind the program's name.
-fn three_words<R: Env + Alloc<A = Global>>(rt: &R) -> Option<[Text; 3]> {
-    let alloc = rt.alloc();
-    let words: Vec<String> = env::args(rt).ok()?.collect(alloc).ok()?;
-    let uri = word(alloc, words.get(1)?)?;
-    let digest = word(alloc, words.get(2)?)?;
-    let path = word(alloc, words.get(3)?)?;
-    Some([uri, digest, path])
-}
-
-fn word(alloc: Global, text: &String) -> Option<Text> {
-    Text::from_slice(alloc, text.as_bytes()).ok()
+// The word at a place, counted from the program's name on.
+fn word<R: Env + Alloc<A = Global>>(rt: &R, place: usize) -> Option<Text> {
+    let words: Vec<String> = env::args(rt).ok()?.collect(rt.alloc()).ok()?;
+    let word = words.get(place)?;
+    Text::from_slice(rt.alloc(), word.as_bytes()).ok()
 }
 
 // A device made on the disk, and found there.

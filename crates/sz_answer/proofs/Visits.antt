@@ -26,7 +26,6 @@ use Rattle.sz_io.specs.Net.{Traffic}
 use Rattle.sz_source.specs.declared.item.Item.{Item}
 use Rattle.sz_source.specs.declared.item.Item.TheVariants as item
 use Rattle.sz_source.specs.declared.source.Source.{Source}
-use Rattle.sz_source.specs.declared.source.Source.TheVariants as source
 use Rattle.sz_visit.specs.Files.{blames_folder as blames_files, Gives, message_of}
 use Rattle.sz_visit.specs.Storage.{storage_of}
 use Rattle.sz_visit.specs.declared.fault.FileFault.{FileFault}
@@ -36,7 +35,7 @@ use Rattle.sz_ask.specs.Asked.{HearsReply, Ran}
 use Rattle.sz_ask.specs.declared.fault.ServerFault.{ServerFault}
 use Rattle.sz_ask.specs.declared.fault.ServerFault.TheVariants as server
 use Rattle.sz_answer.specs.Parts.{AsksOnce, FilesComeTo, IsDhcpAnswer, RefusesFile, RefusesServer}
-use Rattle.sz_answer.specs.Visit.{CameTo, FileComesTo, file_reason, IsJudged, judged_answer, MessageComesTo, request_of, Search, search_of, ServerComesTo, server_reason, StorageComesTo}
+use Rattle.sz_answer.specs.Visit.{CameTo, FileComesTo, file_reason, IsJudged, judged_answer, request_of, Search, search_of, ServerComesTo, StorageComesTo}
 use Rattle.sz_answer.specs.declared.answer.Answer.{Answer}
 use Rattle.sz_answer.specs.declared.answer.Answer.TheVariants as answer
 

@@ -1,15 +1,13 @@
 //! A visit of each kind of item, and each kind of answer.
 
-mod others;
-
 use crate::{Answer, visit};
-use others::{ANCHOR, INFORMATION, VOUCHER};
 use std::alloc::Global;
 use std::test::Fail;
 use sz_base::{
     Bytes, Calls, Certs, Identity, Moment, Seconds, Serial, Target, Targets, Text, base64_bytes,
 };
 use sz_io::{Files, MemoryFolder, Script, ScriptNet, Scripts};
+use sz_samples::{ANCHOR, CERTIFICATES, INFORMATION, VOUCHER};
 use sz_source::{Item, Source};
 
 // the device `A1`, below the anchor
@@ -153,6 +151,13 @@ fn storage_and_messages(rt: HostRuntime) -> Result<(), Fail> {
     Ok(())
 }
 
+// storage with evidence that authorises onboarding information
+const ARTIFACTS: [(&[u8], &str); 3] = [
+    (CONVEYED, INFORMATION),
+    (b"usb/owner-certificate.cms", CERTIFICATES),
+    (b"usb/ownership-voucher.cms", VOUCHER),
+];
+
 #[test]
 fn an_offer_and_a_file_without_a_message(rt: HostRuntime) -> Result<(), Fail> {
     let alloc = rt.alloc();
@@ -160,11 +165,10 @@ fn an_offer_and_a_file_without_a_message(rt: HostRuntime) -> Result<(), Fail> {
     let message = Item::File(Text::from_slice(alloc, CONVEYED)?);
     for (item, text) in [(source.item(alloc)?, "offered"), (message, "2 Absent")] {
         let mut files = Files::create(alloc);
-        let information = base64_bytes(alloc, INFORMATION.as_bytes())?;
-        files.push((Text::from_slice(alloc, CONVEYED)?, information))?;
-        let voucher = base64_bytes(alloc, VOUCHER.as_bytes())?;
-        let path = Text::from_slice(alloc, b"usb/ownership-voucher.cms")?;
-        files.push((path, voucher))?;
+        for (path, artifact) in ARTIFACTS {
+            let bytes = base64_bytes(alloc, artifact.as_bytes())?;
+            files.push((Text::from_slice(alloc, path)?, bytes))?;
+        }
         let folder = folder(alloc, files, 0)?;
         let answer = visited(alloc, folder, network(alloc, b"", 0)?, &source, &item)?;
         assert_eq!(rt; answer.as_str(), text);

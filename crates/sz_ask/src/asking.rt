@@ -25,8 +25,8 @@ pub const MOST_REPLY_BYTES: u64 = 6_291_456;
 const PIECE: usize = 65536;
 
 /// Asks this server for the bootstrapping data of the device of this serial number, with the nonce where there is one,
-/// and reads what it replies. One exchange is added, which is left as soon as the bytes received tell the answer. `Lost`
-/// where it is lost; else the first fault of the reply.
+/// and reads what it replies. One exchange is added, which is left as soon as the bytes received tell the answer.
+/// `Lost` where it is lost; else the first fault of the reply.
 pub fn ask<N: Net>(
     alloc: Global,
     net: &mut N,

@@ -1,0 +1,4 @@
+pub mod Lists
+mod Keeping
+mod Running
+mod Steps

@@ -1,0 +1,4 @@
+pub mod Visits
+pub mod Runs
+pub mod Walk
+pub mod Progress
