@@ -183,8 +183,12 @@ for _ in $(seq 50); do
     sleep 0.1
 done
 
+# a fresh disk of 1 GiB, whose areas hold just the image
+fresh_disk() { rm -f "$work/disk" && truncate -s 1073741824 "$work/disk"; }
+
 echo "building the two programs"
 build hashing
+fresh_disk
 build download "$uri" "$digest" "$work/disk"
 
 # ---- the times
@@ -203,7 +207,8 @@ END
 }
 
 for round in 1 2 3; do
-    rm -f "$work/disk" "$work/copied"
+    fresh_disk
+    rm -f "$work/copied"
     sync
     measure "$work/downloads" crates/download/out/download "$uri" "$digest" "$work/disk"
     measure "$work/hashings" crates/hashing/out/hashing
