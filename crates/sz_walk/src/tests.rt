@@ -1,5 +1,6 @@
 //! Whole walks over files and scripted servers, as texts: a line a visit, with its source, its depth and its note.
 
+ghost use Rattle.sz_base.specs.Identity.{IsWhole};
 ghost use Rattle.sz_walk.specs.Walk.{IsReady};
 
 use crate::{Note, Step, Visit, Walk};
@@ -218,25 +219,43 @@ fn finished(
     Ok(walk)
 }
 
-// the visits of a walk, as texts
-fn walked(alloc: Global, row: &Row) -> Result<String, Fail> {
-    let identity = device(alloc)?;
+// a walk of this device to its end
+fn walk_of(alloc: Global, row: &Row, identity: &Identity) -> Result<Walk, Fail>
+    requires { IsWhole identity.now }
+{
     let mut folder = folder(alloc)?;
     let mut net = network(alloc, row.replies)?;
     let sources = sources(alloc, row.sources)?;
-    if sources.len() > 16 || !identity.is_whole() {
-        return Err("a walk that can't be made".into());
+    if sources.len() > 16 {
+        return Err("too many sources".into());
     }
     let walk = Walk::create(alloc, sources)?;
-    let walk = finished(walk, &mut folder, &mut net, &identity, row.turned_down)?;
+    finished(walk, &mut folder, &mut net, identity, row.turned_down)
+}
+
+fn lines(alloc: Global, visits: &[Visit]) -> Result<String, Fail> {
     let mut text = String::new(alloc);
-    for visit in walk.visits() {
+    for visit in visits {
         text.push_str(line(alloc, visit)?.as_str())?;
     }
-    if walk.finish().len() > 528 {
-        return Err("too many visits".into());
+    Ok(text)
+}
+
+fn told(alloc: Global, walk: Walk) -> Result<String, Fail> {
+    let text = lines(alloc, walk.visits())?;
+    if walk.finish().is_empty() {
+        return Err("a walk without visits".into());
     }
     Ok(text)
+}
+
+// the visits of a walk, as texts
+fn walked(alloc: Global, row: &Row) -> Result<String, Fail> {
+    let identity = device(alloc)?;
+    if !identity.is_whole() {
+        return Err("an identity that is not whole".into());
+    }
+    told(alloc, walk_of(alloc, row, &identity)?)
 }
 
 // a refusal of each kind, and behind it the next source
