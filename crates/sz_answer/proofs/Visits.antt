@@ -33,7 +33,6 @@ use Rattle.sz_visit.specs.declared.fault.FileFault.TheVariants as file
 use Rattle.sz_ask.proofs.Runs.{ran_heard, told_same, told_weaker}
 use Rattle.sz_ask.specs.Asked.{HearsReply, Ran}
 use Rattle.sz_ask.specs.declared.fault.ServerFault.{ServerFault}
-use Rattle.sz_ask.specs.declared.fault.ServerFault.TheVariants as server
 use Rattle.sz_answer.specs.Parts.{AsksOnce, FilesComeTo, IsDhcpAnswer, RefusesFile, RefusesServer}
 use Rattle.sz_answer.specs.Visit.{CameTo, FileComesTo, file_reason, IsJudged, judged_answer, request_of, Search, search_of, ServerComesTo, StorageComesTo}
 use Rattle.sz_answer.specs.declared.answer.Answer.{Answer}
@@ -123,12 +122,11 @@ judged_as search evidence judged this found same judgement is = (
 )
 
 -- why evidence was refused
-pub refused_as : (search : Search) (evidence : Evidence) (refusal : Refusal) (found : Reason)
-    → refusal ≡ refusals.Reason found
-    → IsReason (λ reason. Judgement search.identity search.when evidence (Err reason)) refusal
-    → Judgement search.identity search.when evidence (Err found)
-refused_as search evidence refusal found same refused =
-    subst (IsReason (λ reason. Judgement search.identity search.when evidence (Err reason))) same refused
+pub refused_as : (identity : Identity) (when : Moment) (evidence : Evidence) (refusal : Refusal) (found : Reason)
+    → refusal ≡ refusals.Reason found → IsReason (λ reason. Judgement identity when evidence (Err reason)) refusal
+    → Judgement identity when evidence (Err found)
+refused_as identity when evidence refusal found same refused =
+    subst (IsReason (λ reason. Judgement identity when evidence (Err reason))) same refused
 
 -- ---- a server
 

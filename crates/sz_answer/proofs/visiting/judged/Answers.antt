@@ -27,7 +27,13 @@ returns-in-Ok-Onboarding-clause-judged c = λ files.
 pub returns-in-Err-Reason-clause-judged : goal.returns-in-Err-Reason-clause-judged
 returns-in-Err-Reason-clause-judged c = λ files. (
   Err c.in-Err-Reason.reason,
-  refused_as (search_of c.args.identity.now c.args.when files) c.args.evidence c.in-Err-Reason.field-0
-      c.in-Err-Reason.reason c.in-Err-Reason.field-0-is c.in-Err-Reason.ensures.refused,
+  refused_as c.args.identity.now c.args.when c.args.evidence c.in-Err-Reason.field-0 c.in-Err-Reason.reason
+      c.in-Err-Reason.field-0-is c.in-Err-Reason.ensures.refused,
   refl,
 )
+
+pub returns-in-Err-Reason-clause-not_lost : goal.returns-in-Err-Reason-clause-not_lost
+returns-in-Err-Reason-clause-not_lost c =
+    other_reason c.args.identity.now c.args.when c.args.evidence c.in-Err-Reason.reason
+    (refused_as c.args.identity.now c.args.when c.args.evidence c.in-Err-Reason.field-0 c.in-Err-Reason.reason
+    c.in-Err-Reason.field-0-is c.in-Err-Reason.ensures.refused)
