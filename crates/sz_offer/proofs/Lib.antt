@@ -1,0 +1,5 @@
+mod Fitting
+mod Making
+mod Naming
+mod Sparing
+mod Taking
