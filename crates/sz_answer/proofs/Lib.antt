@@ -1,2 +1,3 @@
 mod NeverLost
 mod Visits
+mod Sound

@@ -10,6 +10,7 @@ use Rattle.sz_dhcp.specs.Message6.{Gives6, IsFault6}
 use Rattle.sz_dhcp.specs.declared.fault.DhcpKind.{DhcpKind}
 use Rattle.sz_dns.specs.Answer as dns
 use Rattle.sz_dns.specs.declared.fault.DnsKind.{DnsKind}
+use Rattle.sz_evidence.specs.Authorised.{Authorised}
 use Rattle.sz_evidence.specs.Judgement.{Judgement}
 use Rattle.sz_evidence.specs.declared.judgement.Judged.{Judged}
 use Rattle.sz_evidence.specs.declared.judgement.Judged.TheVariants as judged
@@ -75,6 +76,16 @@ judged_answer evidence (Err found) = answer.Refused found
 abbrev pub IsJudged : Search → Evidence → Answer → Type 0
 IsJudged search evidence given = (judged : Result Judged Reason)
     × Judgement search.identity search.when evidence judged × (given ≡ judged_answer evidence judged)
+
+-- whatever files and traffic tell: an offer has evidence that authorises it
+abbrev pub IsSound : Identity → Moment → Answer → Type 0
+IsSound identity when (answer.Offered onboarding evidence) = Authorised identity when evidence onboarding
+IsSound identity when _ = Unit {0}
+
+-- the answer is no offer
+abbrev pub IsNoOffer : Answer → Type 0
+IsNoOffer (answer.Offered onboarding evidence) = ⊥
+IsNoOffer _ = Unit {0}
 
 -- ---- the three kinds of items
 

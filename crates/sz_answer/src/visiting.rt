@@ -10,7 +10,7 @@ ghost use Rattle.sz_visit.specs.Files.{blames_folder as blames_files, message_of
 ghost use Rattle.sz_visit.specs.Storage.{storage_of};
 ghost use Rattle.sz_ask.specs.Asked.{blames_net as blames_server};
 ghost use Rattle.sz_answer.specs.Parts.{AsksOnce, FilesComeTo, IsDhcpAnswer, loses, RefusesFile, RefusesServer};
-ghost use Rattle.sz_answer.specs.Visit.{blames_folder, blames_net, CameTo, FileComesTo, IsJudged, MessageComesTo, search_of, StorageComesTo};
+ghost use Rattle.sz_answer.specs.Visit.{blames_folder, blames_net, CameTo, FileComesTo, IsJudged, IsNoOffer, IsSound, MessageComesTo, search_of, StorageComesTo};
 
 use crate::Answer;
 use std::alloc::Global;
@@ -38,6 +38,7 @@ pub fn visit<F: Folder, N: Net>(
     requires whole { IsWhole identity.now }
     ensures came_to { IfOk result (CameTo identity.now when source.now item.now
         (F.files folder.old) (N.traffic net.old) (N.traffic net.new)) }
+    ensures sound { IfOk result (IsSound identity.now when) }
     ensures adds { WhereTold MayAdd (N.traffic net.old) (N.traffic net.new) }
     ensures folder_lost { HasCause (F.faults folder.old) (F.faults folder.new) (blames_folder item.now result) }
     ensures net_lost { HasCause (N.faults net.old) (N.faults net.new) (blames_net item.now result) }
@@ -61,6 +62,7 @@ fn visit_storage<F: Folder>(
     requires { IsWhole identity.now }
     ensures came_to { IfOk result (FilesComeTo (λ files. StorageComesTo (search_of identity.now when files)
         (storage_of files path.now identity.now.serial)) (F.files folder.old)) }
+    ensures sound { IfOk result (IsSound identity.now when) }
     ensures cause { HasCause (F.faults folder.old) (F.faults folder.new) (loses result) }
     ensures unchanged { F.files folder.new ≡ F.files folder.old }
 {
@@ -79,6 +81,7 @@ fn visit_file<F: Folder>(
 ) -> Result<Answer, OutOfMemory>
     ensures came_to { IfOk result (FilesComeTo (λ files. FileComesTo source.now
         (message_of (bytes_at files path.now))) (F.files folder.old)) }
+    ensures no_offer { IfOk result IsNoOffer }
     ensures cause { HasCause (F.faults folder.old) (F.faults folder.new) (loses result) }
     ensures unchanged { F.files folder.new ≡ F.files folder.old }
 {
@@ -99,6 +102,7 @@ fn visit_server<N: Net>(
     requires { IsWhole identity.now }
     ensures came_to { (files : FileMap) → IfOk result (λ given. WhereTold (AsksOnce (search_of identity.now when files)
         target.now given) (N.traffic net.old) (N.traffic net.new)) }
+    ensures sound { IfOk result (IsSound identity.now when) }
     ensures adds { WhereTold MayAdd (N.traffic net.old) (N.traffic net.new) }
     ensures cause { HasCause (N.faults net.old) (N.faults net.new) (loses result) }
 {
@@ -117,6 +121,7 @@ fn judged(
 ) -> Result<Answer, OutOfMemory>
     requires { IsWhole identity.now }
     ensures judged { (files : FileMap) → IfOk result (IsJudged (search_of identity.now when files) evidence) }
+    ensures sound { IfOk result (IsSound identity.now when) }
     ensures not_lost { loses result ≡ false }
 {
     match judge(alloc, identity, when, &evidence) {
@@ -131,6 +136,7 @@ fn judged(
 // What the message of a source names.
 fn listed(alloc: Global, source: &Source, message: &[u8]) -> Result<Answer, OutOfMemory>
     ensures listed { IfOk result (MessageComesTo source.now message.now) }
+    ensures no_offer { IfOk result IsNoOffer }
     ensures not_lost { loses result ≡ false }
 {
     match source {
@@ -153,6 +159,7 @@ fn listed(alloc: Global, source: &Source, message: &[u8]) -> Result<Answer, OutO
 // What a DHCP message names.
 fn listed_dhcp(read: Result<Targets, DhcpFault>) -> Result<Answer, OutOfMemory>
     ensures listed { IfOk result (IsDhcpAnswer read) }
+    ensures no_offer { IfOk result IsNoOffer }
     ensures not_lost { loses result ≡ false }
 {
     match read {
@@ -165,6 +172,7 @@ fn listed_dhcp(read: Result<Targets, DhcpFault>) -> Result<Answer, OutOfMemory>
 // Why files give nothing.
 fn refused_file(what: What, fault: FileFault) -> Result<Answer, OutOfMemory>
     ensures refused { IfOk result (RefusesFile what fault) }
+    ensures no_offer { IfOk result IsNoOffer }
     ensures lost { loses result ≡ blames_files {T = ℕ} (Err fault) }
 {
     match fault {
@@ -178,6 +186,7 @@ fn refused_file(what: What, fault: FileFault) -> Result<Answer, OutOfMemory>
 // Why a server gives no evidence.
 fn refused_server(fault: ServerFault) -> Result<Answer, OutOfMemory>
     ensures refused { IfOk result (RefusesServer fault) }
+    ensures no_offer { IfOk result IsNoOffer }
     ensures lost { loses result ≡ blames_server {T = ℕ} (Err fault) }
 {
     Ok(Answer::Refused(match fault {

@@ -20,9 +20,9 @@ use sz_disk::Disk;
 use sz_record::Device;
 use sz_state::{StateFault, attach};
 
-/// Audits the device of a disk. It is found as `attach` finds it, with the same refusals. Of its image and of what it was
-/// committed to the evidence is judged at its stored moment, and the stored fields are compared with those that it
-/// names; the image's bytes are hashed, in pieces of 65,536 bytes. Nothing is written.
+/// Audits the device of a disk. It is found as `attach` finds it, with the same refusals. Of its image and of what it
+/// was committed to the evidence is judged at its stored moment, and the stored fields are compared with those that
+/// it names; the image's bytes are hashed, in pieces of 65,536 bytes. Nothing is written.
 pub fn audit<D: Disk>(alloc: Global, disk: &mut D) -> Result<Audit, StateFault>
     requires { HasLayout (D.seen disk.old).size }
     ensures found { IfOk result (λ audit. (held : SomeHeld) × IsHeld (D.seen disk.new) held

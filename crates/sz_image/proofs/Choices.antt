@@ -46,7 +46,8 @@ tries_then hash space (text ∷ texts) more own later (fault ∷ faults) found i
   first.1 ++ later,
   ap (λ (l : List Exchange). l ++ later) first.2 ∙ append_assoc first.0 first.1 later,
   first.3,
-  tries_then hash space texts more first.1 later faults found image first.4 second,
+  first.4,
+  tries_then hash space texts more first.1 later faults found image first.5 second,
 )
 
 pub faults_then : (texts more : List (List ℕ)) (faults found : List ImageFault) → AreFaultsOf texts faults → AreFaultsOf more found
@@ -180,13 +181,13 @@ lost_more faults fault a b c lost cause = judged (is_lost fault) refl
 -- ---- the first of the URIs
 
 tries_join : (hash : List ℕ) (space : ℕ) (texts : List (List ℕ)) (text : List ℕ) (faults : List ImageFault) (fault : ImageFault) (a b c : Traffic)
-    → TriesOver hash space texts faults None a b → OwnGivesNone text hash space fault b c
+    → GoesOn fault → TriesOver hash space texts faults None a b → OwnGivesNone text hash space fault b c
     → TriesOver hash space (texts ++ text ∷ []) (faults ++ fault ∷ []) None a c
-tries_join hash space texts text faults fault a b c first second = (
+tries_join hash space texts text faults fault a b c goes first second = (
   first.0 ++ second.0,
   own_then a b c first.0 second.0 first.1 second.1,
   tries_then hash space texts (text ∷ []) first.0 second.0 faults (fault ∷ []) None first.2
-      (second.0, [], sym (append-nil second.0), second.2, refl),
+      (second.0, [], sym (append-nil second.0), second.2, goes, refl),
 )
 
 gives_join : (hash : List ℕ) (space : ℕ) (texts more : List (List ℕ)) (text body : List ℕ) (faults : List ImageFault) (uri : Uri) (a b c : Traffic)
@@ -233,7 +234,7 @@ refuses_more hash space texts text faults fault from to count a b c all goes fai
   tries =
       WhereTold-join (TriesOver hash space texts faults None) (OwnGivesNone text hash space fault)
       (TriesOver hash space (texts ++ text ∷ []) (faults ++ fault ∷ []) None) a b c
-      (λ x y z first second. tries_join hash space texts text faults fault x y z first second) all.tries
+      (λ x y z first second. tries_join hash space texts text faults fault x y z goes first second) all.tries
       (fails_own text hash space fault b c goes fails);
 }
 

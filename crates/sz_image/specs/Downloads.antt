@@ -16,17 +16,24 @@ use Rattle.sz_image.specs.Fetch.{GivesImage, GivesNoImage, HoldsBody, is_lost}
 use Rattle.sz_image.specs.declared.choice.NoImage.{NoImage}
 use Rattle.sz_image.specs.declared.choice.NoImage.TheVariants as no
 
+-- ---- one fault
+
+-- the next URI is tried after this fault
+abbrev pub GoesOn : ImageFault → Type 0
+GoesOn fault = (fault ≢ image.DiskFault) × (fault ≢ image.OutOfMemory)
+
 -- ---- the exchanges
 
--- The downloads over these URIs made these exchanges: those of each URI in turn gave no image, for these faults, until one
--- gave the image. The later URIs aren't asked.
+-- The downloads over these URIs made these exchanges: those of each URI in turn gave no image, for these faults,
+-- until one gave the image. The later URIs aren't asked.
 abbrev pub Tries : List ℕ → ℕ → List (List ℕ) → List Exchange → List ImageFault → Option (List ℕ) → Type 0
 Tries hash space [] own [] None = own ≡ []
 Tries hash space (text ∷ others) own [] (Some body) =
-    (uri : Uri) × IsUri text uri × (exchange : Exchange) × (own ≡ exchange ∷ []) × GivesImage uri hash space body exchange
+    (uri : Uri) × IsUri text uri × (exchange : Exchange) × (own ≡ exchange ∷ [])
+    × GivesImage uri hash space body exchange
 Tries hash space (text ∷ others) own (fault ∷ faults) image =
     (first : List Exchange) × (later : List Exchange) × (own ≡ first ++ later)
-    × GivesNoImage text hash space fault first × Tries hash space others later faults image
+    × GivesNoImage text hash space fault first × GoesOn fault × Tries hash space others later faults image
 Tries hash space _ own _ _ = ⊥
 
 -- ---- what they add to the traffic
@@ -48,16 +55,13 @@ IsLast hash space no.OutOfMemory others last = length last ≤ 1
 IsLast hash space _ others last = ⊥
 
 -- the exchanges of these downloads were added, and behind them those of the download that stopped
-abbrev pub StopsOver : List ℕ → ℕ → NoImage → List (List ℕ) → List (List ℕ) → List ImageFault → Traffic → Traffic → Type 0
+abbrev pub StopsOver : List ℕ → ℕ → NoImage → List (List ℕ) → List (List ℕ) → List ImageFault → Traffic → Traffic
+    → Type 0
 StopsOver hash space why tried others faults before now =
     (own : List Exchange) × (last : List Exchange) × Adds before now (own ++ last)
     × Tries hash space tried own faults None × IsLast hash space why others last
 
--- ---- one fault
-
--- the next URI is tried after this fault
-abbrev pub GoesOn : ImageFault → Type 0
-GoesOn fault = (fault ≢ image.DiskFault) × (fault ≢ image.OutOfMemory)
+-- ---- the fault that ends it
 
 -- the download ends at this fault, for this: for want of memory also where there is none to note the fault
 abbrev pub EndsFor : ImageFault → NoImage → Type 0
@@ -96,8 +100,8 @@ pub record CountsLost (faults : List ImageFault) (before now : ℕ) : Type 0 whe
 
 -- ---- the whole download
 
--- The room holds an image of this size that has this hash. The first of the URIs that gives it gave it; those before it,
--- if any, gave these faults.
+-- The room holds an image of this size that has this hash. The first of the URIs that gives it gave it; those before
+-- it, if any, gave these faults.
 pub record BringsFirst (hash : List ℕ) (uris : List (List ℕ)) (size : ℕ) (room_before room_now : Held)
     (count_before count_now : ℕ) (before now : Option Traffic) : Type 0 where
   pub body : List ℕ

@@ -1,4 +1,5 @@
--- What a download from one URI does: the exchange that it adds, what it leaves in the room, and the causes of its faults.
+-- What a download from one URI does: the exchange that it adds, what it leaves in the room, and the causes of its
+-- faults.
 use Rattle.std.specs.Prelude.{◌≡◌, ℕ, Bool, true, false, List, [], ◌∷◌, length, Option, Result, Err, is_some}
 use Rattle.std.specs.Option.{option_map}
 use Rattle.sha2.specs.Sha256.{sha256}
@@ -33,8 +34,8 @@ Refuses uri hash space image.Lost = Loses uri.target (request_text uri)
 Refuses uri hash space image.DiskFault = HearsOf uri (λ bytes closed. Unit {0})
 Refuses uri hash space fault = HearsOf uri (λ bytes closed. IsRefused space hash bytes closed fault)
 
--- These exchanges, which a download from this text made, give no image, for this: none where the text is no URI that can
--- be asked, and else one.
+-- These exchanges, which a download from this text made, give no image, for this: none where the text is no URI that
+-- can be asked, and else one.
 abbrev pub GivesNoImage : List ℕ → List ℕ → ℕ → ImageFault → List Exchange → Type 0
 GivesNoImage text hash space image.Uri own = ((uri : Uri) → ¬ (IsUri text uri)) × (own ≡ [])
 GivesNoImage text hash space fault own =

@@ -24,9 +24,9 @@ pub enum NoImage {
     OutOfMemory,
 }
 
-/// Downloads the image from the first of these URIs that gives it, in place of what the room holds, and answers its size
-/// in bytes. The URIs are tried in their order, and those behind it aren't asked. A fault of the room ends the download,
-/// as want of memory does. `buffer` is a reading of replies.
+/// Downloads the image from the first of these URIs that gives it, in place of what the room holds, and answers its
+/// size in bytes. The URIs are tried in their order, and those behind it aren't asked. A fault of the room ends the
+/// download, as want of memory does. `buffer` is a reading of replies.
 pub fn fetch_first<N: Net, R: Room>(
     alloc: Global,
     net: &mut N,

@@ -6,10 +6,8 @@ ghost use Rattle.sha2.specs.Sha256.{sha256};
 ghost use Rattle.sz_spec.specs.Cause.{HasCause};
 ghost use Rattle.sz_disk.specs.Room.{Held, HasPut};
 ghost use Rattle.sz_http.specs.Reading.{Takes, side_of};
-ghost use Rattle.sz_head.specs.Head.{HasNoHead};
-ghost use Rattle.sz_head.specs.declared.kind.Kind.TheVariants.{Reply as ReplyKind};
 ghost use Rattle.sz_image.specs.Coming.{Comes, HasCome, IsComing, IsJudged, StopsFor, TakesFront};
-ghost use Rattle.sz_image.specs.Fetch.{HoldsBody, IsSameRoom, blames_room};
+ghost use Rattle.sz_image.specs.Fetch.{IsSameRoom, blames_room};
 ghost use Rattle.sz_image.specs.Reply.{HasStatus, IsRefused};
 
 use crate::head::{framing, refusal};
@@ -50,7 +48,8 @@ impl Incoming {
         ensures ok { (first : Held) (bytes : List ℕ) → IsComing self.old reading.old first (R.held room.old) bytes
             → IfOk result (λ whole. Comes whole self.new reading.new first (R.held room.new) (bytes ++ piece.now)) }
         ensures refused { (first : Held) (hash bytes : List ℕ)
-            → IsComing self.old reading.old first (R.held room.old) bytes → IfErr result (StopsFor first.space hash (bytes ++ piece.now)) }
+            → IsComing self.old reading.old first (R.held room.old) bytes
+            → IfErr result (StopsFor first.space hash (bytes ++ piece.now)) }
         ensures led { R.led room.old room.new × IsSameRoom (R.held room.old) (R.held room.new) }
         ensures cause { HasCause (R.held room.old).faults (R.held room.new).faults (blames_room result) }
         ensures side { side_of reading.new ≡ side_of reading.old }

@@ -10,7 +10,7 @@ use sz_disk::Room;
 use sz_http::{Reading, Side};
 use sz_io::{Script, ScriptNet, Scripts};
 
-// The digests of `abc`, of `abd`, of 2,097,152 zeros and of 100,000 zeros, as sha256sum of coreutils prints them.
+// The digests of `abc`, of `abd`, and of 2,097,152, 100,000 and 40,000,000 zeros, as sha256sum of coreutils prints them.
 const ABC: &[u8] =
     b"ba:78:16:bf:8f:01:cf:ea:41:41:40:de:5d:ae:22:23:b0:03:61:a3:96:17:7a:9c:b4:10:ff:61:f2:00:15:ad";
 
@@ -22,6 +22,9 @@ const TWO_MIB: &[u8] =
 
 const SMALL: &[u8] =
     b"91:92:c2:5b:73:4f:cb:ad:be:32:da:dc:28:08:9c:60:db:0e:39:f9:0c:c2:0c:e2:e5:73:3f:57:26:1a:cc:0c";
+
+const LARGE: &[u8] =
+    b"c0:e6:62:3a:bf:be:d7:3c:14:6b:e8:13:38:cf:f1:e8:e4:c0:6d:d0:5e:b9:87:21:16:3d:c7:9f:bb:d2:05:62";
 
 // The bytes of a large image.
 const AREA: u64 = 2_097_152;
@@ -120,14 +123,16 @@ fn three_uris(alloc: Global) -> Result<Texts, Fail> {
     Ok(uris)
 }
 
-// What the download of `abc` from the three URIs comes to: its size, or each URI's fault; nothing after another end.
+// What the download of the image with this digest from the three URIs comes to: its size, or each URI's fault; nothing
+// after another end.
 fn first_of(
     alloc: Global,
     net: &mut ScriptNet,
     room: &mut Pad,
+    digest: &[u8],
 ) -> Result<Result<u64, Vec<ImageFault>>, Fail> {
     let uris = three_uris(alloc)?;
-    let hash = colon_hex(ABC).unwrap_or([0; 32]);
+    let hash = colon_hex(digest).unwrap_or([0; 32]);
     let mut buffer = Reading::create(alloc, Side::Reply, 0)?;
     match fetch_first(alloc, net, room, &uris, &hash, &mut buffer) {
         Ok(size) => Ok(Ok(size)),
@@ -163,72 +168,75 @@ fn abc(
     download(alloc, reply, closed, space, ABC)
 }
 
+// A reply and whether the connection is closed behind it, and what the download of `abc` into three bytes comes to.
+type Row<'a> = (&'a [u8], bool, Result<u64, ImageFault>);
+
+fn large(size: u64) -> ImageFault {
+    ImageFault::ImageTooLarge { size, area: 3 }
+}
+
 #[test]
-fn a_reply_gives_the_image_or_its_first_fault(rt: HostRuntime) -> Result<(), Fail> {
-    let alloc = rt.alloc();
+fn a_whole_reply_gives_the_image_or_is_lost_or_wrong(rt: HostRuntime) -> Result<(), Fail> {
     let wrong = ImageFault::WrongHash {
         found: colon_hex(ABD).unwrap_or([0; 32]),
     };
-    let large = |size| ImageFault::ImageTooLarge { size, area: 3 };
-    let rows: [(&[u8], bool, Result<u64, ImageFault>); 15] = [
+    let chunked =
+        b"HTTP/1.1 200 OK\r\nTransfer-Encoding: chunked\r\n\r\n1\r\na\r\n2\r\nbc\r\n0\r\n\r\n" as &[u8];
+    let other = b"HTTP/1.1 200 OK\r\nContent-Length: 3\r\n\r\nabd" as &[u8];
+    let rows: [Row; 5] = [
         (
             b"HTTP/1.1 200 OK\r\nContent-Length: 3\r\n\r\nabc",
             false,
             Ok(3),
         ),
-        (
-            b"HTTP/1.1 200 OK\r\nTransfer-Encoding: chunked\r\n\r\n1\r\na\r\n2\r\nbc\r\n0\r\n\r\n",
-            false,
-            Ok(3),
-        ),
+        (chunked, false, Ok(3)),
         (b"HTTP/1.0 200 OK\r\n\r\nabc", true, Ok(3)),
         (b"HTTP/1.0 200 OK\r\n\r\nabc", false, Err(ImageFault::Lost)),
-        (
-            b"HTTP/1.1 200 OK\r\nContent-Length: 3\r\n\r\nabd",
-            true,
-            Err(wrong),
-        ),
-        (
-            b"HTTP/1.1 200 OK\r\nContent-Length: 3\r\n\r\nab",
-            true,
-            Err(ImageFault::EndedEarly),
-        ),
+        (other, true, Err(wrong)),
+    ];
+    for (reply, closed, answer) in rows {
+        assert_eq!(rt; abc(rt.alloc(), reply, closed, 3)?, answer);
+    }
+    Ok(())
+}
+
+#[test]
+fn a_reply_is_refused_for_its_first_fault(rt: HostRuntime) -> Result<(), Fail> {
+    let early = b"HTTP/1.1 200 OK\r\nContent-Length: 3\r\n\r\nab" as &[u8];
+    let bad_chunk = b"HTTP/1.1 200 OK\r\nTransfer-Encoding: chunked\r\n\r\n3\r\nabcX" as &[u8];
+    let coded = b"HTTP/1.1 404 Not Found\r\nContent-Encoding: gzip\r\n\r\n" as &[u8];
+    let absent = b"HTTP/1.1 404 Not Found\r\nContent-Length: 9\r\n\r\n" as &[u8];
+    let rows: [Row; 6] = [
+        (early, true, Err(ImageFault::EndedEarly)),
         (b"HTTP/1.1 200", true, Err(ImageFault::EndedEarly)),
         (b"HTPP/1.1 200 OK\r\n\r\n", true, Err(ImageFault::BadHttp)),
-        (
-            b"HTTP/1.1 200 OK\r\nTransfer-Encoding: chunked\r\n\r\n3\r\nabcX",
-            true,
-            Err(ImageFault::BadHttp),
-        ),
-        (
-            b"HTTP/1.1 404 Not Found\r\nContent-Encoding: gzip\r\n\r\n",
-            true,
-            Err(ImageFault::Coding),
-        ),
-        (
-            b"HTTP/1.1 404 Not Found\r\nContent-Length: 9\r\n\r\n",
-            true,
-            Err(ImageFault::Status { code: 404 }),
-        ),
+        (bad_chunk, true, Err(ImageFault::BadHttp)),
+        (coded, true, Err(ImageFault::Coding)),
+        (absent, true, Err(ImageFault::Status { code: 404 })),
+    ];
+    for (reply, closed, answer) in rows {
+        assert_eq!(rt; abc(rt.alloc(), reply, closed, 3)?, answer);
+    }
+    Ok(())
+}
+
+#[test]
+fn an_image_over_the_room_is_refused_with_its_size(rt: HostRuntime) -> Result<(), Fail> {
+    let five =
+        b"HTTP/1.1 200 OK\r\nTransfer-Encoding: chunked\r\n\r\n5\r\nabcde\r\n0\r\n\r\n" as &[u8];
+    let four = b"HTTP/1.1 200 OK\r\nTransfer-Encoding: chunked\r\n\r\n3\r\nabc\r\n1\r\nd" as &[u8];
+    let rows: [Row; 4] = [
         (
             b"HTTP/1.1 200 OK\r\nContent-Length: 9\r\n\r\n",
             true,
             Err(large(9)),
         ),
         (b"HTTP/1.0 200 OK\r\n\r\nabcd", true, Err(large(4))),
-        (
-            b"HTTP/1.1 200 OK\r\nTransfer-Encoding: chunked\r\n\r\n5\r\nabcde\r\n0\r\n\r\n",
-            true,
-            Err(large(4)),
-        ),
-        (
-            b"HTTP/1.1 200 OK\r\nTransfer-Encoding: chunked\r\n\r\n3\r\nabc\r\n1\r\nd",
-            true,
-            Err(large(4)),
-        ),
+        (five, true, Err(large(4))),
+        (four, true, Err(large(4))),
     ];
     for (reply, closed, answer) in rows {
-        assert_eq!(rt; abc(alloc, reply, closed, 3)?, answer);
+        assert_eq!(rt; abc(rt.alloc(), reply, closed, 3)?, answer);
     }
     Ok(())
 }
@@ -316,46 +324,72 @@ fn the_first_uri_that_gives_the_image_is_the_last_asked(rt: HostRuntime) -> Resu
     let abc = b"HTTP/1.1 200 OK\r\nContent-Length: 3\r\n\r\nabc" as &[u8];
     let abd = b"HTTP/1.1 200 OK\r\nContent-Length: 3\r\n\r\nabd" as &[u8];
     let full = b"HTTP/1.0 200 OK\r\n\r\nabcde" as &[u8];
+    for (replies, asked) in [([abc, abd], 1), ([full, abc], 2)] {
+        let mut net = servers(alloc, &replies)?;
+        let mut room = empty_room(alloc, 5);
+        let answer = first_of(alloc, &mut net, &mut room, ABC)?;
+        assert!(rt; answer.is_ok_and(|size| size == 3));
+        assert_eq!(rt;
+            (room.bytes.as_slice(), net.past().len()),
+            (b"abc" as &[u8], asked)
+        );
+    }
+    Ok(())
+}
+
+#[test]
+fn where_no_uri_gives_the_image_each_has_its_fault(rt: HostRuntime) -> Result<(), Fail> {
+    let alloc = rt.alloc();
+    let absent = b"HTTP/1.1 404 Not Found\r\nContent-Length: 0\r\n\r\n" as &[u8];
+    let abd = b"HTTP/1.1 200 OK\r\nContent-Length: 3\r\n\r\nabd" as &[u8];
     let over = b"HTTP/1.0 200 OK\r\n\r\nabcdef" as &[u8];
     let short = b"HTTP/1.1 200 OK\r\nTransfer-Encoding: chunked\r\n\r\n2\r\nab\r\n" as &[u8];
-    let absent = b"HTTP/1.1 404 Not Found\r\nContent-Length: 0\r\n\r\n" as &[u8];
-    let rows: [([&[u8]; 2], Result<u64, [ImageFault; 3]>, &[u8], usize); 4] = [
-        ([abc, abd], Ok(3), b"abc", 1),
-        ([full, abc], Ok(3), b"abc", 2),
-        (
-            [absent, abd],
-            Err([
-                ImageFault::Status { code: 404 },
-                ImageFault::WrongHash {
-                    found: colon_hex(ABD).unwrap_or([0; 32]),
-                },
-                ImageFault::Uri,
-            ]),
-            b"abd",
-            2,
-        ),
+    let found = colon_hex(ABD).unwrap_or([0; 32]);
+    let status = ImageFault::Status { code: 404 };
+    let large = ImageFault::ImageTooLarge { size: 6, area: 5 };
+    let wrong = ImageFault::WrongHash { found };
+    let rows: [([&[u8]; 2], [ImageFault; 3], &[u8]); 2] = [
+        ([absent, abd], [status, wrong, ImageFault::Uri], b"abd"),
         (
             [over, short],
-            Err([
-                ImageFault::ImageTooLarge { size: 6, area: 5 },
-                ImageFault::EndedEarly,
-                ImageFault::Uri,
-            ]),
+            [large, ImageFault::EndedEarly, ImageFault::Uri],
             b"ab",
-            2,
         ),
     ];
-    for (replies, want, held, asked) in &rows {
+    for (replies, faults, held) in &rows {
         let mut net = servers(alloc, replies)?;
         let mut room = empty_room(alloc, 5);
-        match (first_of(alloc, &mut net, &mut room)?, want) {
-            (Ok(size), Ok(wanted)) => assert_eq!(rt; size, *wanted),
-            (Err(faults), Err(wanted)) => assert_eq!(rt; faults.as_slice(), wanted.as_slice()),
-            _ => return Err("another end".into()),
-        }
-        assert_eq!(rt; room.bytes.as_slice(), *held);
-        assert_eq!(rt; net.past().len(), *asked);
+        let answer = first_of(alloc, &mut net, &mut room, ABC)?;
+        assert!(rt; answer.is_err_and(|found| found.as_slice() == faults.as_slice()));
+        assert_eq!(rt; (room.bytes.as_slice(), net.past().len()), (*held, 2));
     }
+    Ok(())
+}
+
+// A reply with an image of 40,000,000 bytes: zeros, and this one behind them.
+fn large_reply(alloc: Global, last: u8) -> Result<Bytes, Fail> {
+    let mut reply = Bytes::from_slice(
+        alloc,
+        b"HTTP/1.1 200 OK\r\nContent-Length: 40000000\r\n\r\n",
+    )?;
+    let block = [0u8; 4000];
+    for _ in 0..9_999 {
+        reply.append(&block)?;
+    }
+    reply.append(&block[..3999])?;
+    reply.append(&[last])?;
+    Ok(reply)
+}
+
+#[test]
+fn a_large_image_comes_from_the_second_uri(rt: HostRuntime) -> Result<(), Fail> {
+    let alloc = rt.alloc();
+    let (wrong, right) = (large_reply(alloc, 1)?, large_reply(alloc, 0)?);
+    let mut net = servers(alloc, &[wrong.as_slice(), right.as_slice()])?;
+    let mut room = empty_room(alloc, 67_108_864);
+    let answer = first_of(alloc, &mut net, &mut room, LARGE)?;
+    assert!(rt; answer.is_ok_and(|size| size == 40_000_000));
+    assert_eq!(rt; (room.bytes.len(), net.past().len()), (40_000_000, 2));
     Ok(())
 }
 
@@ -366,7 +400,7 @@ fn a_fault_of_the_room_ends_the_download(rt: HostRuntime) -> Result<(), Fail> {
     let mut net = servers(alloc, &[abc, abc])?;
     let mut room = empty_room(alloc, 5);
     room.broken = true;
-    let answer = first_of(alloc, &mut net, &mut room)?;
+    let answer = first_of(alloc, &mut net, &mut room, ABC)?;
     assert!(rt; answer.is_err_and(|faults| faults.is_empty()));
     assert_eq!(rt; (room.faults, net.past().len()), (1, 1));
     Ok(())

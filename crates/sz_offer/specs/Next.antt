@@ -17,8 +17,8 @@ pub record AsCommitted (device : Device) (onboarding : Onboarding) (when : Momen
   pub satisfied : IsSatisfied device onboarding
   pub next_is : next ≡ once_onboarded device onboarding when evidence
 
--- What runs does not satisfy the information, and an image is in place, in whatever area and of whatever size and SHA-256:
--- the records of all of them have one length.
+-- What runs does not satisfy the information, and an image is in place, in whatever area and of whatever size and
+-- SHA-256: the records of all of them have one length.
 pub record WithImage (device : Device) (onboarding : Onboarding) (when : Moment) (evidence : Evidence) (next : Device)
     : Type 0 where
   pub unsatisfied : ¬ (IsSatisfied device onboarding)
@@ -41,8 +41,8 @@ NextFits capacity device onboarding when evidence =
     (next : Device) → IsNext device onboarding when evidence next → Fits capacity next
 
 -- its record has this many bytes, capped, which do not fit
-pub record NextIsTooLarge (capacity : ℕ) (device : Device) (onboarding : Onboarding) (when : Moment) (evidence : Evidence)
-    (size : ℕ) : Type 0 where
+pub record NextIsTooLarge (capacity : ℕ) (device : Device) (onboarding : Onboarding) (when : Moment)
+    (evidence : Evidence) (size : ℕ) : Type 0 where
   pub next : Device
   pub is_next : IsNext device onboarding when evidence next
   pub over : ¬ (Fits capacity next)

@@ -71,8 +71,8 @@ pub record GotNoImage (looker : Looker) (onboarding : Onboarding) (evidence : Ev
   pub ready : IsReady looker onboarding evidence
   pub downloads : Downloads looker onboarding ready.names own faults None
 
--- The device makes these exchanges of the offer, and takes it, or turns it down for this reason. The reasons are tried in
--- this order: the record is too large; an image is needed and has no hash; no URI gives it.
+-- The device makes these exchanges of the offer, and takes it, or turns it down for this reason. The reasons are
+-- tried in this order: the record is too large; an image is needed and has no hash; no URI gives it.
 abbrev pub Makes : Looker → Onboarding → Evidence → List Exchange → Option Reason → Type 0
 Makes looker onboarding evidence own None =
     (IsTaken looker onboarding evidence × (own ≡ [])) ⊎ GotImage looker onboarding evidence own

@@ -1,4 +1,5 @@
--- What the trial of an offer does: what it came to and over which exchanges, what it leaves of the disk, and whom it blames.
+-- What the trial of an offer does: what it came to and over which exchanges, what it leaves of the disk, and whom it
+-- blames.
 use Rattle.std.specs.Prelude.{◌≡◌, ◌⊎◌, ℕ, ◌≤◌, Bool, true, false, List, length, Option, Some, None, IfSome}
 use Rattle.sha2.specs.Sha256.{sha256}
 use Rattle.sz_spec.specs.Told.{WhereTold}
@@ -76,8 +77,8 @@ pub record CameTo (looker : Looker) (onboarding : Onboarding) (evidence : Eviden
   pub ready : IsReady looker onboarding evidence
   pub download : DownloadCameTo ready.names.hash (space_of looker.size) ready.names.boot.uris before now tried
 
--- What the trial came to, and why. Where no image was needed or can be had the network is as it was; the disk fails, and
--- memory runs out, only in a download.
+-- What the trial came to, and why. Where no image was needed or can be had the network is as it was; the disk fails,
+-- and memory runs out, only in a download.
 abbrev pub Tried : Looker → Onboarding → Evidence → Network → Network → Trial → Type 0
 Tried looker onboarding evidence before now trial.Satisfied = IsTaken looker onboarding evidence × (now ≡ before)
 Tried looker onboarding evidence before now (trial.Refused (reason.RecordTooLarge size)) =

@@ -255,8 +255,8 @@ fn offered(
 fn an_offer_is_taken_or_turned_down_for_the_first_reason(rt: HostRuntime) -> Result<(), Fail> {
     let alloc = rt.alloc();
     let over = Answer::TooLarge(16_369);
-    // The record of the device has 29 bytes; committed it has 8 more for a time, 1 for a nonce, 8 for the evidence, 1 for
-    // how the configuration is taken, 7 for what is absent and for lengths, and the configuration.
+    // The record of the device has 29 bytes; committed it has 8 more for a time, 1 for a nonce, 8 for the evidence, 1
+    // for how the configuration is taken, 7 for what is absent and for lengths, and the configuration.
     for (version, hash, configuration, reply, outcome) in [
         (
             b"1",

@@ -20,9 +20,9 @@ use sz_image::{NoImage, fetch_first};
 use sz_io::Net;
 use sz_state::{Held, fits, is_satisfied, staging};
 
-/// Tries an offer of onboarding information for a device that was found and is not committed: whether the record that it
-/// would store next fits, whether what runs satisfies the information, and else whether the image that it names can be
-/// had, which is then staged in the area that the device does not use. `buffer` is a reading of replies.
+/// Tries an offer of onboarding information for a device that was found and is not committed: whether the record that
+/// it would store next fits, whether what runs satisfies the information, and else whether the image that it names
+/// can be had, which is then staged in the area that the device does not use. `buffer` is a reading of replies.
 pub fn try_offer<D: Disk, N: Net>(
     alloc: Global,
     held: &Held,

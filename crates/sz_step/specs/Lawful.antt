@@ -1,4 +1,5 @@
--- Which devices are lawful: all that was put on them is named by evidence that authorises it at the moment stored with it.
+-- Which devices are lawful: all that was put on them is named by evidence that authorises it at the moment stored
+-- with it.
 use Rattle.std.specs.Prelude.{◌≡◌, ℕ, List, Some, IfSome}
 use Rattle.sz_base.specs.declared.identity.Identity.{Identity}
 use Rattle.sz_conveyed.specs.declared.onboarding.BootImage.{BootImage}
@@ -21,8 +22,8 @@ pub record IsLawfulImage (identity : Identity) (image : Image) : Type 0 where
   pub authorised : Authorised identity image.when image.evidence onboarding
   pub names : Names onboarding image.hash
 
--- What the device is committed to has evidence that authorises the device, at the moment stored with it, for information
--- that has these scripts and this configuration, and that is satisfied by what runs.
+-- What the device is committed to has evidence that authorises the device, at the moment stored with it, for
+-- information that has these scripts and this configuration, and that is satisfied by what runs.
 pub record IsLawfulCommitment (device : Device) (committed : Committed) : Type 0 where
   pub onboarding : Onboarding
   pub authorised : Authorised device.identity committed.when committed.evidence onboarding

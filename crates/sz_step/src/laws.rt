@@ -33,8 +33,8 @@ pub fn a_device_is_committed_once()
         → count_by commits boots ≤ 1 }
 {}
 
-/// Whatever boots follow on a device as it was made, each leaves a lawful device of that identity: the serial number and
-/// the anchors by which evidence is judged stay those that the device was made with.
+/// Whatever boots follow on a device as it was made, each leaves a lawful device of that identity: the serial number
+/// and the anchors by which evidence is judged stay those that the device was made with.
 pub fn boots_leave_lawful_devices()
     ensures lawful { (identity : Identity) (boots : List Boot) → Follow (factory identity) boots
         → EachLeaves Lawful boots }

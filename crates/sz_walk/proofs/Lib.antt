@@ -1,4 +1,5 @@
 pub mod Lists
 mod Keeping
-mod Running
+pub mod Running
+mod Sound
 mod Steps

@@ -53,13 +53,13 @@ made_of sources search own from front given before taken after takes budget sour
 step_made : (sources : List Source) (search : Search) (own : List Exchange) (given : Answer) (before after : Walked) (old new : Traffic)
     → Owns old new own → Makes sources search own given before after → IsStep sources search (step_of given) before after old new
 step_made sources search own (answer.Listed targets) before after old new owns makes =
-    inl (record { own = own; given = answer.Listed targets; owns = owns; no_offer = λ onboarding evidence same. cc; makes = makes })
+    inl (record { own = own; given = answer.Listed targets; owns = owns; no_offer = tt; makes = makes })
 step_made sources search own (answer.Redirected targets) before after old new owns makes =
-    inl (record { own = own; given = answer.Redirected targets; owns = owns; no_offer = λ onboarding evidence same. cc; makes = makes })
+    inl (record { own = own; given = answer.Redirected targets; owns = owns; no_offer = tt; makes = makes })
 step_made sources search own (answer.Offered onboarding evidence) before after old new owns makes =
     record { own = own; owns = owns; makes = makes }
 step_made sources search own (answer.Refused found) before after old new owns makes =
-    inl (record { own = own; given = answer.Refused found; owns = owns; no_offer = λ onboarding evidence same. cc; makes = makes })
+    inl (record { own = own; given = answer.Refused found; owns = owns; no_offer = tt; makes = makes })
 
 -- one blames for what is lost alone
 abbrev pub BlamesLoss : (Item → Answer → Bool) → Type 0

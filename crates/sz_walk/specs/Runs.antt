@@ -1,5 +1,5 @@
 -- Runs of a walk: acts at the front of the list, the exchanges that they own, and the visits of a whole walk.
-use Rattle.std.specs.Prelude.{◌≡◌, ◌≢◌, ◌⊎◌, ℕ, ◌+◌, Bool, true, false, if◌then◌else◌, List, [], ◌∷◌, ◌++◌, Option, Some, None}
+use Rattle.std.specs.Prelude.{◌≡◌, ◌⊎◌, ℕ, ◌+◌, Bool, true, false, if◌then◌else◌, List, [], ◌∷◌, ◌++◌, Option, Some, None}
 use Rattle.sz_base.specs.declared.evidence.Evidence.{Evidence}
 use Rattle.sz_conveyed.specs.declared.onboarding.Onboarding.{Onboarding}
 use Rattle.sz_evidence.specs.declared.reason.Reason.{Reason}
@@ -7,7 +7,7 @@ use Rattle.sz_io.specs.Added.{Adds}
 use Rattle.sz_io.specs.Net.{Traffic}
 use Rattle.sz_io.specs.declared.exchange.Exchange.{Exchange}
 use Rattle.sz_source.specs.declared.source.Source.{Source}
-use Rattle.sz_answer.specs.Visit.{Search}
+use Rattle.sz_answer.specs.Visit.{IsNoOffer, Search}
 use Rattle.sz_answer.specs.declared.answer.Answer.{Answer}
 use Rattle.sz_answer.specs.declared.answer.Answer.TheVariants as answer
 use Rattle.sz_walk.specs.Visits.{first_walked, HasOffer, Makes, Spends, TurnsDown, Walked, was_lost_file}
@@ -47,9 +47,6 @@ owned act = visit_owned act ++ downloads_owned act
 abbrev pub all_owned : List Act → List Exchange
 all_owned [] = []
 all_owned (act ∷ acts) = owned act ++ all_owned acts
-
-abbrev pub IsNoOffer : Answer → Type 0
-IsNoOffer given = (onboarding : Onboarding) (evidence : Evidence) → given ≢ answer.Offered onboarding evidence
 
 -- the act leads from one state of the walk to the other
 abbrev pub Does : Trial → List Source → Search → Act → Walked → Walked → Type 0

@@ -4,14 +4,15 @@ use Rattle.std.specs.List.{list_any}
 use Rattle.sz_spec.specs.Told.{WhereTold}
 use Rattle.sz_base.specs.Identity.{IsWhole}
 use Rattle.sz_base.specs.declared.identity.Identity.{Identity}
+use Rattle.sz_base.specs.declared.moment.Moment.{Moment}
+use Rattle.sz_evidence.specs.Authorised.{Authorised}
 use Rattle.sz_io.specs.Folder.{FileMap}
 use Rattle.sz_io.specs.Net.{Traffic}
 use Rattle.sz_io.specs.declared.exchange.Exchange.{Exchange}
 use Rattle.sz_source.specs.declared.source.Source.{Source}
-use Rattle.sz_answer.specs.Visit.{Owns, Search}
+use Rattle.sz_answer.specs.Visit.{IsNoOffer, Owns, Search}
 use Rattle.sz_answer.specs.declared.answer.Answer.{Answer}
 use Rattle.sz_answer.specs.declared.answer.Answer.TheVariants as answer
-use Rattle.sz_walk.specs.Runs.{IsNoOffer}
 use Rattle.sz_walk.specs.Visits.{HasOffer, Makes, most_visits, Spends, visits_of, Walked}
 use Rattle.sz_walk.specs.declared.visit.Visit.{Visit}
 use Rattle.sz_walk.specs.declared.step.Step.{Step}
@@ -57,7 +58,12 @@ IsStep sources search step.Passed before after old new =
 IsStep sources search step.Done before after old new = (before.entries ≡ []) × (after ≡ before) × (new ≡ old)
 IsStep sources search step.OutOfMemory before after old new = Unit {0}
 
--- ---- what a call notes, whether they tell or not
+-- ---- what a call offers and notes, whether they tell or not
+
+-- an offer has evidence that authorises it
+abbrev pub OffersAuthorised : Identity → Moment → Step → Type 0
+OffersAuthorised identity when (step.Offer onboarding evidence) = Authorised identity when evidence onboarding
+OffersAuthorised identity when _ = Unit {0}
 
 abbrev pub is_offer : Step → Bool
 is_offer (step.Offer onboarding evidence) = true

@@ -6,7 +6,7 @@ ghost use Rattle.sz_spec.specs.Told.{WhereTold};
 ghost use Rattle.sz_exchange.specs.Exchange.{MayAdd};
 ghost use Rattle.sz_answer.specs.Visit.{search_of};
 ghost use Rattle.sz_walk.specs.Visits.{first_walked, HasOffer, TurnsDown, was_lost_file, was_lost_server};
-ghost use Rattle.sz_walk.specs.Walk.{IsReady, IsStep, Notes, notes_some, WhereBothTell};
+ghost use Rattle.sz_walk.specs.Walk.{IsReady, IsStep, Notes, notes_some, OffersAuthorised, WhereBothTell};
 
 use crate::progress::{Progress, Turn};
 use crate::{Step, Visit, Visits};
@@ -66,6 +66,7 @@ impl Walk {
         ensures step { WhereBothTell (F.files folder.old) (N.traffic net.old) (N.traffic net.new)
             (λ files. IsStep self.old.sources (search_of identity.now when files) result
             self.old.walked self.new.walked) }
+        ensures authorised { OffersAuthorised identity.now when result }
         ensures notes { Notes result self.old self.new }
         ensures adds { WhereTold MayAdd (N.traffic net.old) (N.traffic net.new) }
         ensures folder_lost { HasCause (F.faults folder.old) (F.faults folder.new)

@@ -1,9 +1,10 @@
-use Rattle.std.proofs.Common.{Ok, Err, refl, ap}
+use Rattle.std.proofs.Common.{Ok, Err, refl, ap, subst}
 use Rattle.sz_evidence.specs.declared.judgement.Judged.{Judged}
 use Rattle.sz_evidence.specs.declared.judgement.Judged.TheVariants as judged
 use Rattle.sz_answer.proofs.NeverLost.{other_reason}
 use Rattle.sz_answer.proofs.Visits.{judged_as, refused_as}
 use Rattle.sz_answer.specs.Visit.{search_of}
+use Rattle.sz_evidence.specs.Judgement.{Judgement}
 use Rattle.sz_answer.proofs.visiting.judged.Goals as goal
 
 pub returns-in-Ok-Unsigned-clause-judged : goal.returns-in-Ok-Unsigned-clause-judged
@@ -37,3 +38,8 @@ returns-in-Err-Reason-clause-not_lost c =
     other_reason c.args.identity.now c.args.when c.args.evidence c.in-Err-Reason.reason
     (refused_as c.args.identity.now c.args.when c.args.evidence c.in-Err-Reason.field-0 c.in-Err-Reason.reason
     c.in-Err-Reason.field-0-is c.in-Err-Reason.ensures.refused)
+
+pub returns-in-Ok-Onboarding-clause-sound : goal.returns-in-Ok-Onboarding-clause-sound
+returns-in-Ok-Onboarding-clause-sound c =
+    subst (λ (j : Judged). Judgement c.args.identity.now c.args.when c.args.evidence (Ok j))
+    c.in-Ok-Onboarding.field-0-is c.in-Ok-Onboarding.ensures.judged

@@ -4,6 +4,7 @@ use Rattle.sz_ask.proofs.Runs.{ran_moved}
 use Rattle.sz_answer.proofs.Visits.{evidence_comes, fault_comes}
 use Rattle.sz_answer.specs.Visit.{request_of, search_of}
 use Rattle.sz_rest.specs.Request.{request_text}
+use Rattle.sz_answer.proofs.Sound.{no_offer_sound}
 use Rattle.sz_answer.proofs.visiting.visit_server.Goals as goal
 
 pub returns-in-Ok-clause-came_to : goal.returns-in-Ok-clause-came_to
@@ -31,3 +32,7 @@ returns-in-Err-clause-came_to g c = λ files.
     c.in-Err.ensures.ran in
     fault_comes c.args.identity.now c.args.when target c.in-Err.fault c.refused_server.result before now files ran
     c.refused_server.ensures.refused
+
+pub returns-in-Err-clause-sound : goal.returns-in-Err-clause-sound
+returns-in-Err-clause-sound g c =
+    no_offer_sound c.args.identity.now c.args.when c.refused_server.result c.refused_server.ensures.no_offer

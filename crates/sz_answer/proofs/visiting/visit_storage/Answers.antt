@@ -7,6 +7,7 @@ use Rattle.sz_visit.specs.declared.fault.FileFault.{FileFault}
 use Rattle.sz_answer.proofs.Visits.{blames_alike, read_comes, refused_comes}
 use Rattle.sz_answer.specs.Visit.{search_of, StorageComesTo}
 use Rattle.sz_answer.specs.declared.answer.Answer.{Answer}
+use Rattle.sz_answer.proofs.Sound.{no_offer_sound}
 use Rattle.sz_answer.proofs.visiting.visit_storage.Goals as goal
 
 pub returns-in-Ok-clause-came_to : goal.returns-in-Ok-clause-came_to
@@ -31,3 +32,7 @@ returns-in-Err-clause-came_to g c =
 pub returns-in-Err-clause-cause : goal.returns-in-Err-clause-cause
 returns-in-Err-clause-cause g c =
     rw (c.refused_file.ensures.lost ∙ blames_alike ℕ Evidence c.in-Err.fault) c.in-Err.ensures.cause
+
+pub returns-in-Err-clause-sound : goal.returns-in-Err-clause-sound
+returns-in-Err-clause-sound g c =
+    no_offer_sound c.args.identity.now c.args.when c.refused_file.result c.refused_file.ensures.no_offer

@@ -10,6 +10,7 @@ use Rattle.sz_walk.specs.Walk.{IsStep, Notes, notes_some, WalkState}
 use Rattle.sz_walk.specs.declared.step.Step.TheVariants as step
 use Rattle.sz_ask.proofs.Runs.{nothing_added}
 use Rattle.sz_walk.proofs.Keeping.{front_below, kept_spends, kept_takes}
+use Rattle.sz_walk.proofs.Sound.{settled_authorised}
 use Rattle.sz_walk.proofs.Steps.{folder_cause, kept_settled, net_cause, notes_lacking, notes_over, notes_settled, notes_spent, settled_step, state}
 use Rattle.sz_walk.proofs.walk.Walk.next.Goals as goal
 
@@ -76,6 +77,11 @@ returns-in-Visit-clause-step g c =
     (walked_of c.self.inside.progress) (walked_of c.turn.new.self) (walked_of c.settle.new.self) (g.F.Folder.files c.args.folder.now)
     (g.N.Net.traffic c.args.net.now) (g.N.Net.traffic c.visit-visited.new.net) c.in-Visit.ensures.0 c.in-Visit.ensures.1 is c.settle.ensures.settled
     c.visit-visited.ensures.came_to c.visit-visited.ensures.adds)
+
+pub returns-in-Visit-clause-authorised : goal.returns-in-Visit-clause-authorised
+returns-in-Visit-clause-authorised g c =
+    settled_authorised c.args.identity.now c.args.when c.in-Visit.front c.visit-visited.result c.settle.result
+    (walked_of c.turn.new.self) (walked_of c.settle.new.self) c.visit-visited.ensures.sound c.settle.ensures.settled
 
 pub returns-in-Visit-clause-notes : goal.returns-in-Visit-clause-notes
 returns-in-Visit-clause-notes g c =
