@@ -1,0 +1,13 @@
+mod Changing
+mod Completing
+mod Counting
+mod Crashing
+mod Finding
+mod Fitting
+mod Holding
+mod Idling
+mod Living
+mod Sparing
+mod Stepping
+mod Trying
+mod Turning

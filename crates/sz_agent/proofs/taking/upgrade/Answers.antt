@@ -1,0 +1,33 @@
+use Rattle.std.proofs.Common.{Bool, sym, subst}
+use Rattle.sz_spec.specs.Cause.{HasCause}
+use Rattle.sz_state.specs.Step.{once_installed}
+use Rattle.sz_state.specs.declared.held.Held.{Held}
+use Rattle.sz_agent.proofs.Changing.{blamed_alike, install_unmade, stands_unchanged, untouched_early}
+use Rattle.sz_agent.proofs.taking.upgrade.Goals as goal
+
+pub returns-in-Ok-clause-stands : goal.returns-in-Ok-clause-stands
+returns-in-Ok-clause-stands g c = λ stands.
+    let through = c.in-Ok.ensures.stands stands c.requires.can.in_area.in_area in
+    record { any_moment = through.any_moment; changed = λ yes. through.ok }
+
+pub returns-clause-becomes : goal.returns-clause-becomes
+returns-clause-becomes g c =
+    install_unmade (once_installed c.args.held.device c.args.offer.onboarding c.args.staged c.args.when c.args.offer.evidence)
+    c.args.held.ready.sequence c.args.staged c.args.offer c.in-Err.fault c.outcome_of.result c.in-Err.ensures.answer
+    c.outcome_of.ensures
+
+pub returns-clause-stands : goal.returns-clause-stands
+returns-clause-stands g c = λ stands.
+    stands_unchanged (g.D.Disk.seen c.args.disk.now) (g.D.Disk.seen c.install.new.disk) c.args.held.device
+    (once_installed c.args.held.device c.args.offer.onboarding c.args.staged c.args.when c.args.offer.evidence) c.in-Err.fault
+    c.outcome_of.result c.outcome_of.ensures (c.in-Err.ensures.stands stands
+    c.requires.can.in_area.in_area)
+
+pub returns-clause-untouched : goal.returns-clause-untouched
+returns-clause-untouched g c = λ yes.
+    c.in-Err.ensures.untouched (untouched_early c.in-Err.fault c.outcome_of.result c.outcome_of.ensures yes)
+
+pub returns-clause-cause : goal.returns-clause-cause
+returns-clause-cause g c =
+    subst (λ (b : Bool). HasCause (g.D.Disk.seen c.args.disk.now).faults (g.D.Disk.seen c.install.new.disk).faults b)
+    (sym (blamed_alike Held c.in-Err.fault c.outcome_of.result c.outcome_of.ensures)) c.in-Err.ensures.cause
