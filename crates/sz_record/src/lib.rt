@@ -13,6 +13,7 @@ mod reading;
 mod sizes;
 mod storable;
 mod unread;
+mod widths;
 mod writing;
 
 pub use device::{Committed, Device, Image, Stage};
@@ -21,6 +22,7 @@ pub use laws::{devices_are_rewritten, payloads_have_one_reading};
 pub use reading::read;
 pub use sizes::{installed_size, onboarded_size, size};
 pub use storable::is_storable;
+pub use widths::{device_widths, moment_widths};
 pub use writing::write;
 
 #[cfg(test)]
