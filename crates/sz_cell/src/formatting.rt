@@ -1,5 +1,5 @@
 //! Making a new cell.
-ghost use Rattle.std.specs.Prelude.{◌≡◌, ℕ, ◌+◌, ◌≤◌, ◌∷◌, length, IfOk, OnOk, Err, false};
+ghost use Rattle.std.specs.Prelude.{◌≡◌, ◌⊎◌, ℕ, ◌+◌, ◌≤◌, ◌∷◌, length, IfOk, OnOk, Err, false};
 ghost use Rattle.sz_spec.specs.Cause.{HasCause};
 ghost use Rattle.sz_disk.specs.Disk.{IsStill, IsSynced, LeavesOnly};
 ghost use Rattle.sz_cell.specs.Cell.{formatted, IsFirstOpen, NoneOpen};
@@ -16,8 +16,8 @@ use crate::{FormatFault, Ready, Region};
 use sz_disk::Disk;
 
 /// Makes a cell with this value in a region where no gate is open, in its first slot. It begins with a sync:
-/// whatever it answers but `Failed`, from then on a crash leaves what a read gives. At `InUse` nothing was
-/// written.
+/// whatever it answers but `Failed`, from then on a crash leaves what a read gives. Nothing is written unless both
+/// gates read closed, whatever it answers.
 pub fn format<D: Disk>(disk: &mut D, region: Region, payload: &[u8]) -> Result<Ready, FormatFault>
     requires within { region.at + region_size region.capacity ≤ (D.seen disk.old).size }
     requires fits { length payload.now ≤ region.capacity }
@@ -26,6 +26,8 @@ pub fn format<D: Disk>(disk: &mut D, region: Region, payload: &[u8]) -> Result<R
         (Formatted region.at region.capacity (D.seen disk.old) (D.seen disk.new) payload.now) }
     ensures in_use { (slot : ℕ) → result ≡ Err (FormatFault.InUse slot)
         → IsInUse region.at region.capacity slot (D.seen disk.old) (D.seen disk.new) }
+    ensures free { IsStill (D.seen disk.old) (D.seen disk.new)
+        ⊎ NoneOpen region.at region.capacity (D.seen disk.old).reads }
     ensures any_moment { LeavesOnly (D.seen disk.old) (D.seen disk.new)
         (MeansAsBeforeOr region.at region.capacity (D.seen disk.old).leaves (value 0 1 payload.now)) }
     ensures wrote { Writes region.at (open_gate ∷ spelled 1 payload.now)

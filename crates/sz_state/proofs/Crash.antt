@@ -3,7 +3,7 @@ use Rattle.std.proofs.Common.{◌≡◌, ℕ, ◌≤◌, List, length, Option, S
 use Rattle.sz_base.specs.declared.identity.Identity.{Identity}
 use Rattle.sz_disk.specs.Disk.{Seen, IsLawful, IsQuiet, IsSynced, LeavesOnly}
 use Rattle.sz_disk.proofs.Moments.{quiet-quiet, settled-quiet, leaves-both_facts, leaves-weaker}
-use Rattle.sz_cell.specs.Cell.{IsReady, Kept, WhereReadsTold}
+use Rattle.sz_cell.specs.Cell.{IsReady, Kept, Means, WhereReadsTold}
 use Rattle.sz_cell.specs.Meaning.{value, meaning}
 use Rattle.sz_cell.specs.Transition.{MeansAsBeforeOr}
 use Rattle.sz_cell.proofs.States.{untold}
@@ -12,26 +12,28 @@ use Rattle.sz_record.specs.Stored.{IsStored, IsStorable}
 use Rattle.sz_record.specs.declared.device.Device.{Device}
 use Rattle.sz_state.specs.Layout.{HasLayout, capacity_of, cell_place, space_of}
 use Rattle.sz_state.specs.Ran.{AsBeforeOrStands, NowStands}
-use Rattle.sz_state.specs.Stands.{HasImage, Stands}
+use Rattle.sz_state.specs.Stands.{HasImage, HasRecord, Stands}
 use Rattle.sz_state.specs.Step.{factory}
 
--- images whose cell has this value, and whose area has the image
+-- images whose cell has this value
+pub has_record_by : (size : ℕ) (image : List ℕ) (device : Device) (slot sequence : ℕ) (payload : List ℕ) → length image ≡ size
+    → meaning cell_place (capacity_of size) image ≡ value slot sequence payload → IsStored (space_of size) payload device
+    → HasRecord image device sequence
+has_record_by size image device slot sequence payload sized means stored =
+    let Q : ℕ → Type 0 = λ s. meaning cell_place (capacity_of s) image ≡ value slot sequence payload in
+    let R : ℕ → Type 0 = λ s. IsStored (space_of s) payload device in
+    record { slot = slot; payload = payload; means = subst Q (sym sized) means; stored = subst R (sym sized) stored }
+
+-- and whose area has the image
 pub stands_by : (size : ℕ) (image : List ℕ) (device : Device) (slot sequence : ℕ) (payload : List ℕ) → HasLayout size
     → length image ≡ size → meaning cell_place (capacity_of size) image ≡ value slot sequence payload
     → IsStored (space_of size) payload device → IfSome device.image (HasImage image) → Stands image device
 stands_by size image device slot sequence payload has sized means stored in_area =
     let P : ℕ → Type 0 = λ s. HasLayout s in
-    let Q : ℕ → Type 0 = λ s. meaning cell_place (capacity_of s) image ≡ value slot sequence payload in
-    let R : ℕ → Type 0 = λ s. IsStored (space_of s) payload device in
     record {
       layout = subst P (sym sized) has;
       sequence = sequence;
-      record_is = record {
-        slot = slot;
-        payload = payload;
-        means = subst Q (sym sized) means;
-        stored = subst R (sym sized) stored;
-      };
+      record_is = has_record_by size image device slot sequence payload sized means stored;
       in_area = in_area;
     }
 
@@ -72,18 +74,29 @@ initial-any_moment old new identity payload lawful size has stored leaves =
     initial-image image (inr means) sized =
         inr (stands_by old.size image (factory identity) 0 1 payload has sized means stored tt)
 
+-- what an image means in the cell's place
+ready-means : (size : ℕ) (kept : Kept) (payload image : List ℕ) → kept.at ≡ cell_place → kept.capacity ≡ capacity_of size
+    → Means kept payload image → meaning cell_place (capacity_of size) image ≡ value kept.slot kept.sequence payload
+ready-means size kept payload image at capacity means =
+    ap (λ a. meaning a (capacity_of size) image) (sym at) ∙ ap (λ c. meaning kept.at c image) (sym capacity) ∙ means
+
+-- a cell that is ready has its record in every image
+pub ready-record : (disk : Seen) (size : ℕ) (device : Device) (kept : Kept) (payload : List ℕ) → IsLawful disk
+    → disk.size ≡ size → kept.at ≡ cell_place → kept.capacity ≡ capacity_of size → IsReady disk kept payload
+    → IsStored (space_of size) payload device → (image : List ℕ) → disk.leaves image → HasRecord image device kept.sequence
+ready-record disk size device kept payload lawful same at capacity ready stored image left =
+    let sized : length image ≡ size = lawful.sized disk.moment image ((lawful.now image).0 left) ∙ same in
+    let means = ready-means size kept payload image at capacity (ready.means image left) in
+    has_record_by size image device kept.slot kept.sequence payload sized means stored
+
 -- a cell that is ready with the first record
 pub ready-stands : (disk : Seen) (size : ℕ) (device : Device) (kept : Kept) (payload : List ℕ) → IsLawful disk
     → disk.size ≡ size → HasLayout size → kept.at ≡ cell_place → kept.capacity ≡ capacity_of size
     → IsReady disk kept payload → IsStored (space_of size) payload device
     → ((image : List ℕ) → disk.leaves image → IfSome device.image (HasImage image)) → NowStands disk device
 ready-stands disk size device kept payload lawful same has at capacity ready stored in_area image left =
-    let sized : length image ≡ size =
-    lawful.sized disk.moment image ((lawful.now image).0 left) ∙ same in
-    let means : meaning cell_place (capacity_of size) image ≡ value kept.slot kept.sequence payload =
-    ap (λ a. meaning a (capacity_of size) image) (sym at)
-    ∙ ap (λ c. meaning kept.at c image) (sym capacity)
-    ∙ ready.means image left in
+    let sized : length image ≡ size = lawful.sized disk.moment image ((lawful.now image).0 left) ∙ same in
+    let means = ready-means size kept payload image at capacity (ready.means image left) in
     stands_by size image device kept.slot kept.sequence payload has sized means stored (in_area image left)
 
 -- a disk that tells nothing is ready with anything of this length

@@ -23,7 +23,7 @@ use Rattle.sz_state.specs.declared.areas.Layout.{Layout}
 use Rattle.sz_state.specs.declared.fault.StateFault.{StateFault}
 use Rattle.sz_state.specs.declared.fault.StateFault.TheVariants.{Failed, NotInitialised, Damaged, BadRecord, InUse, Exhausted, OutOfMemory, TooLarge}
 use Rattle.sz_state.specs.declared.held.Held.{Held}
-use Rattle.sz_state.proofs.Crash.{first_stored, ready-stands}
+use Rattle.sz_state.proofs.Crash.{first_stored, ready-record, ready-stands}
 
 -- the cell as the layout places it
 pub read_placed : (size : ℕ) (layout : Layout) (reads : Option (List ℕ)) (m : Meaning) → IsLayout size layout
@@ -126,14 +126,13 @@ factory_storable identity whole = record {
 pub made : (old new : Seen) (identity : Identity) (payload : List ℕ) → IsLawful new → new.size ≡ old.size
     → HasLayout old.size → IsWhole identity → payload ≡ record_bytes new_version (factory identity)
     → Formatted cell_place (capacity_of old.size) old new payload → IsInitialised new identity
-made old new identity payload lawful same has whole first cell = record {
-  stands =
-      let stored = first_stored (space_of old.size) identity payload first
-      (factory_storable identity whole) in
-      ready-stands new old.size (factory identity) _ payload lawful same has refl refl cell.ready stored
-      (λ image left. tt);
-  settled = cell.settled;
-}
+made old new identity payload lawful same has whole first cell =
+    let stored = first_stored (space_of old.size) identity payload first (factory_storable identity whole) in
+    record {
+      stands = ready-stands new old.size (factory identity) _ payload lawful same has refl refl cell.ready stored (λ image left. tt);
+      first = ready-record new old.size (factory identity) _ payload lawful same refl refl cell.ready stored;
+      settled = cell.settled;
+    }
 
 -- the payload was not read
 pub read_refused : (disk : Seen) (space : ℕ) (kept : Kept) (fault : StateFault) → IsReadFault fault

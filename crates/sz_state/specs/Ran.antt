@@ -14,7 +14,7 @@ use Rattle.sz_record.specs.declared.device.Device.{Device}
 use Rattle.sz_state.specs.Fitting.{Fits}
 use Rattle.sz_state.specs.Layout.{capacity_of, cell_place}
 use Rattle.sz_state.specs.Held.{IsHeld, ReadHas}
-use Rattle.sz_state.specs.Stands.{HasBadRecord, Stands}
+use Rattle.sz_state.specs.Stands.{HasBadRecord, HasRecord, Stands}
 use Rattle.sz_state.specs.Step.{factory}
 use Rattle.sz_state.specs.declared.fault.StateFault.{StateFault}
 use Rattle.sz_state.specs.declared.fault.StateFault.TheVariants.{Failed, NotInitialised, Damaged, BadRecord, InUse, Exhausted, OutOfMemory, TooLarge}
@@ -45,9 +45,10 @@ IsNoRecord capacity device fault =
 abbrev pub IsEarly : StateFault → Type 0
 IsEarly fault = (fault ≡ OutOfMemory) ⊎ ((found : ℕ) × (fault ≡ TooLarge found))
 
--- every image stands for the device as it is made, and everything is synced
+-- every image stands for the device as it is made, by a record with the first sequence, and everything is synced
 pub record IsInitialised (disk : Seen) (identity : Identity) : Type 0 where
   pub stands : NowStands disk (factory identity)
+  pub first : (image : List ℕ) → disk.leaves image → HasRecord image (factory identity) 1
   pub settled : IsSettled disk
 
 -- What `init` answers: that the disk is made, or the first open gate, or that the record does not fit. Where the disk

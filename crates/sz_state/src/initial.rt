@@ -1,12 +1,13 @@
 //! Making a disk stand for a device as it is made.
 
-ghost use Rattle.std.specs.Prelude.{◌≡◌, ◌≤◌, length, IfOk, IfErr};
+ghost use Rattle.std.specs.Prelude.{◌≡◌, ◌⊎◌, ◌≤◌, length, IfOk, IfErr};
 ghost use Rattle.sz_base.specs.Identity.{IsWhole};
 ghost use Rattle.sz_spec.specs.Cause.{HasCause};
-ghost use Rattle.sz_disk.specs.Disk.{LeavesOnly};
+ghost use Rattle.sz_cell.specs.Cell.{NoneOpen};
+ghost use Rattle.sz_disk.specs.Disk.{IsStill, LeavesOnly};
 ghost use Rattle.sz_record.specs.Spelling.{new_version, record_bytes};
 ghost use Rattle.sz_state.specs.Fault.{state_failed};
-ghost use Rattle.sz_state.specs.Layout.{HasLayout};
+ghost use Rattle.sz_state.specs.Layout.{HasLayout, capacity_of, cell_place};
 ghost use Rattle.sz_state.specs.Ran.{AsBeforeOrStands, FitsUnlessTold, IsEarly, IsNoRecord, Made};
 ghost use Rattle.sz_state.specs.Step.{factory};
 
@@ -18,12 +19,14 @@ use sz_record::{Device, size, write};
 
 /// Makes a disk stand for a device with this identity as it is made. `TooLarge` exactly where its record does not fit
 /// the cell; `InUse` where, after a sync, a gate of the cell is open. It takes its memory before it calls the disk, and
-/// writes nothing before it answers one of these.
+/// writes nothing unless both gates read closed, whatever it answers. The record's sequence is 1.
 pub fn init<D: Disk>(alloc: Global, disk: &mut D, identity: &Identity) -> Result<(), StateFault>
     requires layout { HasLayout (D.seen disk.old).size }
     requires whole { IsWhole identity.now }
     ensures made { Made (D.seen disk.old) (D.seen disk.new) identity.now result }
     ensures fits { FitsUnlessTold (D.seen disk.old) identity.now result }
+    ensures free { IsStill (D.seen disk.old) (D.seen disk.new)
+        ⊎ NoneOpen cell_place (capacity_of (D.seen disk.old).size) (D.seen disk.old).reads }
     ensures any_moment { LeavesOnly (D.seen disk.old) (D.seen disk.new)
         (AsBeforeOrStands (D.seen disk.old) (factory identity.now)) }
     ensures untouched { IfErr result (λ fault. IsEarly fault → disk.new ≡ disk.old) }

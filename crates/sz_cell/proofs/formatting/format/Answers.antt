@@ -1,4 +1,4 @@
-use Rattle.std.proofs.Common.{◌≡◌, ◌∷◌, refl, ◌∙◌, arith}
+use Rattle.std.proofs.Common.{◌≡◌, ◌∷◌, refl, ◌∙◌, arith, inl, inr}
 use Rattle.sz_disk.proofs.Moments.{torn-torn, still-torn}
 use Rattle.sz_cell.specs.Slot.{place, open_gate, spelled}
 use Rattle.sz_cell.proofs.Fresh.{behind-any_moment, gate-any_moment, first-ready}
@@ -112,3 +112,15 @@ returns-clause-wrote g c =
           (torn-behind _ open_gate bytes middle behind back.elsewhere))
           (torn-gate _ open_gate bytes behind last gate.elsewhere);
     }
+
+pub returns-in_err-find_closed-clause-free : goal.returns-in_err-find_closed-clause-free
+returns-in_err-find_closed-clause-free g c = inl c.find_closed.ensures.still
+
+pub returns-in_err-write_behind-clause-free : goal.returns-in_err-write_behind-clause-free
+returns-in_err-write_behind-clause-free g c = inr c.in_ok-find_closed.ensures.closed
+
+pub returns-in_err-write_gate-clause-free : goal.returns-in_err-write_gate-clause-free
+returns-in_err-write_gate-clause-free g c = inr c.in_ok-find_closed.ensures.closed
+
+pub returns-clause-free : goal.returns-clause-free
+returns-clause-free g c = inr c.in_ok-find_closed.ensures.closed
