@@ -1,12 +1,12 @@
 -- A boot that ended before anything was asked: its device could not be found, or is committed already.
 use Rattle.std.specs.Prelude.{◌≡◌, ◌≢◌, ℕ, true, false, List, [], Option, Some, None, is_some, Err}
-use Rattle.std.proofs.Common.{refl, sym, subst, ◌∙◌, inl, inr}
+use Rattle.std.proofs.Common.{refl, sym, ap, subst, ◌∙◌, inl, inr}
 use Rattle.std.proofs.lemmas.Bool.{false≢true}
 use Rattle.std.proofs.lemmas.Option.{same_Some}
 use Rattle.sz_ask.proofs.Runs.{told_same}
 use Rattle.sz_base.specs.declared.evidence.Evidence.{Evidence}
 use Rattle.sz_base.specs.declared.moment.Moment.{Moment}
-use Rattle.sz_disk.specs.Disk.{IsLawful, IsStill, IsSynced, Seen}
+use Rattle.sz_disk.specs.Disk.{IsLawful, IsQuiet, IsStill, IsSynced, Seen}
 use Rattle.sz_io.specs.Folder.{FileMap}
 use Rattle.sz_io.specs.Net.{Traffic}
 use Rattle.sz_record.specs.Stored.{HasWidths}
@@ -21,7 +21,7 @@ use Rattle.sz_state.specs.declared.fault.StateFault.TheVariants as state
 use Rattle.sz_state.specs.declared.held.Held.{Held}
 use Rattle.sz_step.specs.Boots.{Boot}
 use Rattle.sz_walk.specs.declared.visit.Visit.{Visit}
-use Rattle.sz_agent.specs.Boot.{BootOk, EndsBroken, looker_at, outside_of, TellsStep, WalkEnds}
+use Rattle.sz_agent.specs.Boot.{BootOk, EndsBroken, ends_early, looker_at, outside_of, TellsStep, WalkEnds}
 use Rattle.sz_agent.specs.Crash.{ReadsAs, StandsForEither}
 use Rattle.sz_agent.specs.Ending.{EndsFor}
 use Rattle.sz_agent.specs.Quest.{BreaksOff, Quest, quest_of}
@@ -49,6 +49,18 @@ some_not_none (Some value) there none = absurd (cc none)
 pub none_of : {A : Type 0} (given : Option A) → is_some given ≡ false → given ≡ None
 none_of None lacks = refl
 none_of (Some value) lacks = absurd (false≢true (sym lacks))
+
+-- a boot that ended before anything was asked wrote nothing
+pub early-quiet : (old new : Seen) (fault : StateFault) (ended : Outcome) → EndsFor fault ended
+    → (state_failed {T = Held} (Err fault) ≡ false → IsSynced old new) → ends_early ended ≡ true → IsQuiet old new
+early-quiet old new state.Failed ended ends synced early = absurd (false≢true (sym (ap ends_early ends) ∙ early))
+early-quiet old new state.NotInitialised ended ends synced early = (synced refl).quiet
+early-quiet old new (state.Damaged slot sequence size) ended ends synced early = (synced refl).quiet
+early-quiet old new (state.BadRecord place byte) ended ends synced early = (synced refl).quiet
+early-quiet old new (state.Exhausted sequence) ended ends synced early = (synced refl).quiet
+early-quiet old new state.OutOfMemory ended ends synced early = (synced refl).quiet
+early-quiet old new (state.InUse slot) ended ends synced early = absurd ends
+early-quiet old new (state.TooLarge size) ended ends synced early = absurd ends
 
 -- every image of a disk that was synced stands for the device as which it reads
 settled-stands : OneReading → (old new : Seen) (before other : Device) (sequence : ℕ) → IsSynced old new

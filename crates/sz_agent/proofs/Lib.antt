@@ -2,9 +2,9 @@ mod Changing
 mod Completing
 mod Counting
 mod Crashing
-mod Finding
+pub mod Finding
 mod Fitting
-mod Holding
+pub mod Holding
 mod Idling
 mod Living
 mod Sparing

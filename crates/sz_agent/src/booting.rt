@@ -2,6 +2,7 @@
 
 ghost use Rattle.std.specs.Prelude.{◌≡◌, ◌≤◌, ℕ, [], length, true, None};
 ghost use Rattle.sz_spec.specs.Cause.{HasCause};
+ghost use Rattle.sz_disk.specs.Disk.{IsQuiet};
 ghost use Rattle.sz_record.specs.declared.device.Device.{Device as SomeDevice};
 ghost use Rattle.sz_state.specs.Layout.{HasLayout};
 ghost use Rattle.sz_agent.specs.Boot.{BootOk, ends_early, FoundAs, IsMoment, outside_of, random_of};
@@ -14,21 +15,22 @@ use crate::drawing::draw;
 use crate::ending::outcome_of;
 use crate::searching::search;
 use crate::taking::take;
-use crate::widths::{choice_widths, device_widths, moment_widths};
+use crate::widths::choice_widths;
 use crate::{Outcome, Report};
 use std::alloc::Global;
 use sz_base::{Moment, Seconds};
 use sz_disk::Disk;
 use sz_io::{Entropy, Folder, Net};
-use sz_record::payloads_have_one_reading;
+use sz_record::{device_widths, moment_widths, payloads_have_one_reading};
 use sz_source::Sources;
 use sz_state::{Held, attach};
 use sz_walk::Visits;
 
-/// One boot of the device of this disk (RFC 8572 section 5): the device is attached, and ends the boot where it is
-/// committed already; a nonce is drawn; the sources are visited until the device can take an offer; then its image is
-/// put in place, or the device is committed. A draw that fails gives a moment without a nonce. Whatever the outcome,
-/// the disk stands for the device before or for the one after, and so does what a crash at any moment leaves.
+/// One boot of the device of this disk (RFC 8572 section 5): the device is attached; where there is none, or it is
+/// committed already, the boot ends with nothing asked and nothing written; a nonce is drawn; the sources are visited
+/// until the device can take an offer; then its image is put in place, or the device is committed. A draw that fails
+/// gives a moment without a nonce. Whatever the outcome, the disk stands for the device before or for the one after,
+/// and so does what a crash at any moment leaves.
 pub fn boot<D: Disk, F: Folder, N: Net, E: Entropy>(
     alloc: Global,
     disk: &mut D,
@@ -46,8 +48,8 @@ pub fn boot<D: Disk, F: Folder, N: Net, E: Entropy>(
     ensures found { FoundAs (D.seen disk.old) result.outcome }
     ensures moment { IsMoment when result (random_of (E.faults entropy.old) (E.bytes entropy.old))
         (random_of (E.faults entropy.new) (E.bytes entropy.new)) net.old net.new }
-    ensures asks_nothing { ends_early result.outcome ≡ true
-        → (net.new ≡ net.old) × (folder.new ≡ folder.old) × (entropy.new ≡ entropy.old) }
+    ensures early { ends_early result.outcome ≡ true → IsQuiet (D.seen disk.old) (D.seen disk.new)
+        × (net.new ≡ net.old) × (folder.new ≡ folder.old) × (entropy.new ≡ entropy.old) }
     ensures disk_fault { HasCause (D.seen disk.old).faults (D.seen disk.new).faults (blames_disk result.outcome) }
     ensures lost { CountsLost (counts_of (F.faults folder.old) (N.faults net.old))
         (counts_of (F.faults folder.new) (N.faults net.new)) result.visits }

@@ -14,9 +14,6 @@ use sz_samples::{ANCHOR, CERTIFICATES, INFORMATION, VOUCHER};
 use sz_source::{Source, Sources};
 use sz_state::{attach, init, layout};
 
-mod images;
-mod signed;
-
 // 1 MiB, the least size of a device disk
 const SIZE: u64 = 1_048_576;
 
@@ -25,20 +22,13 @@ const NOW: Seconds = Seconds(1_735_689_600);
 
 const ABSENT: &[u8] = b"HTTP/1.1 404 Not Found\r\nContent-Length: 0\r\n\r\n";
 
-// a number of calls of the disk that no boot of these tests reaches
-const CALLS: u64 = 18;
-
-// the device A1 with this anchor, as its identity file has it
-fn identity_with(alloc: Global, anchor: &str) -> Result<Identity, Fail> {
+// the device A1, as its identity file has it
+fn identity(alloc: Global) -> Result<Identity, Fail> {
     let before = br#"{"serial": "A1", "os-name": "os", "os-version": "1", "anchors": [""#;
     let mut file = Bytes::from_slice(alloc, before)?;
-    file.append(anchor.as_bytes())?;
+    file.append(ANCHOR.as_bytes())?;
     file.append(br#""]}"#)?;
     Ok(read_identity(alloc, file.as_slice())?)
-}
-
-fn identity(alloc: Global) -> Result<Identity, Fail> {
-    identity_with(alloc, ANCHOR)
 }
 
 // a disk of this size that was made for a device of this identity
@@ -54,24 +44,14 @@ fn disk_of(
     Ok(disk.power_up())
 }
 
-// the reply of a server with these artifacts, each in base64
-fn reply_of(
-    alloc: Global,
-    information: &str,
-    certificates: &str,
-    voucher: &str,
-) -> Result<Bytes, Fail> {
-    let evidence = Evidence {
-        ci: base64_bytes(alloc, information.as_bytes())?,
-        oc: Some(base64_bytes(alloc, certificates.as_bytes())?),
-        ov: Some(base64_bytes(alloc, voucher.as_bytes())?),
-    };
-    Ok(write_reply(alloc, &evidence)?)
-}
-
 // the reply with evidence whose information has a configuration and names no image
 fn evidence(alloc: Global) -> Result<Bytes, Fail> {
-    reply_of(alloc, INFORMATION, CERTIFICATES, VOUCHER)
+    let evidence = Evidence {
+        ci: base64_bytes(alloc, INFORMATION.as_bytes())?,
+        oc: Some(base64_bytes(alloc, CERTIFICATES.as_bytes())?),
+        ov: Some(base64_bytes(alloc, VOUCHER.as_bytes())?),
+    };
+    Ok(write_reply(alloc, &evidence)?)
 }
 
 // a network with these replies in turn, of which each connection is closed behind it
@@ -249,62 +229,5 @@ fn nothing_is_asked_where_there_is_nothing_to_take(rt: HostRuntime) -> Result<()
     booted(&rt, alloc, &mut disk, right, ONE, NONCE)?;
     let told = booted(&rt, alloc, &mut disk, right, ONE, NONCE)?;
     assert_eq!(rt; told, ("AlreadyOnboarded", 0, 0, false));
-    Ok(())
-}
-
-// boots a disk twice, undisturbed, over a server that has evidence for both; the device is onboarded then
-fn is_onboarded_by_two_more(
-    rt: &impl Abort,
-    alloc: Global,
-    disk: &mut MemoryDisk,
-    right: &[u8],
-) -> Result<bool, Fail> {
-    for _ in 0..2 {
-        booted(rt, alloc, disk, &[right], ONE, NONCE)?;
-    }
-    Ok(stage_of(rt, alloc, disk)? == Stage::Onboarded)
-}
-
-#[test]
-fn a_cut_leaves_the_device_before_or_after(rt: HostRuntime) -> Result<(), Fail> {
-    let alloc = rt.alloc();
-    let right = evidence(alloc)?;
-    let right = right.as_slice();
-    let identity = identity(alloc)?;
-    for call in 1..=CALLS {
-        for choice in [0, 1, 2, 4] {
-            let mut disk = disk_of(&rt, alloc, SIZE, &identity)?;
-            disk.cut_at(call, choice);
-            let told = booted(&rt, alloc, &mut disk, &[right], ONE, NONCE)?;
-            let mut disk = disk.power_up();
-            let stage = stage_of(&rt, alloc, &mut disk)?;
-            assert!(rt;
-                stage == Stage::Onboarded || (stage == Stage::Factory && told.0 == "DiskFault"),
-                "at {call}, {choice}"
-            );
-            assert!(rt; is_onboarded_by_two_more(&rt, alloc, &mut disk, right)?);
-        }
-    }
-    Ok(())
-}
-
-#[test]
-fn a_call_that_fails_leaves_the_device_before_or_after(rt: HostRuntime) -> Result<(), Fail> {
-    let alloc = rt.alloc();
-    let right = evidence(alloc)?;
-    let right = right.as_slice();
-    let identity = identity(alloc)?;
-    for call in 1..=CALLS {
-        let mut disk = disk_of(&rt, alloc, SIZE, &identity)?;
-        disk.fail_at(Calls::from_vec([call].to_vec(alloc)?));
-        let told = booted(&rt, alloc, &mut disk, &[right], ONE, NONCE)?;
-        disk.fail_at(Calls::create(alloc));
-        let stage = stage_of(&rt, alloc, &mut disk)?;
-        assert!(rt;
-            stage == Stage::Onboarded || (stage == Stage::Factory && told.0 == "DiskFault"),
-            "at {call}"
-        );
-        assert!(rt; is_onboarded_by_two_more(&rt, alloc, &mut disk, right)?);
-    }
     Ok(())
 }

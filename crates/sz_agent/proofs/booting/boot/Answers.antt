@@ -5,7 +5,7 @@ use Rattle.sz_agent.specs.Choice.{blames_disk as blames_choice, made_by}
 use Rattle.sz_agent.specs.Ending.{EndsFor}
 use Rattle.sz_agent.specs.declared.report.Outcome.{Outcome}
 use Rattle.sz_agent.proofs.Finding.{held-reads}
-use Rattle.sz_agent.proofs.Idling.{committed_ok, refused_ok, some_not_none, none_of}
+use Rattle.sz_agent.proofs.Idling.{committed_ok, early-quiet, refused_ok, some_not_none, none_of}
 use Rattle.sz_agent.proofs.Stepping.{cause_taken, found_taken, never_early, taken_ok}
 use Rattle.sz_agent.proofs.booting.boot.Goals as goal
 
@@ -55,8 +55,21 @@ returns-clause-found g c =
     (c.in-Ok.ensures.synced refl).quiet.reads
     (none_of c.in-Ok.held.device.onboarded (sym c.is_some.ensures ∙ c.if-is_some.false)))
 
-pub returns-clause-asks_nothing : goal.returns-clause-asks_nothing
-returns-clause-asks_nothing g c = λ early.
+pub returns-in-Err-clause-early : goal.returns-in-Err-clause-early
+returns-in-Err-clause-early g c = λ early. (
+  early-quiet (g.D.Disk.seen c.args.disk.now) (g.D.Disk.seen c.attach.new.disk) c.in-Err.fault _
+      (subst (λ (o : Outcome). EndsFor c.in-Err.fault o) (sym c.unasked.ensures.outcome) c.outcome_of.ensures)
+      c.in-Err.ensures.synced early,
+  refl,
+  refl,
+  refl,
+)
+
+pub returns-then-is_some-clause-early : goal.returns-then-is_some-clause-early
+returns-then-is_some-clause-early g c = λ early. ((c.in-Ok.ensures.synced refl).quiet, refl, refl, refl)
+
+pub returns-clause-early : goal.returns-clause-early
+returns-clause-early g c = λ early.
     absurd (never_early (made_by c.in-Ok.held.device c.draw-moment.result c.search-choice.result.choice)
     c.in-Ok.held.ready.sequence c.search-choice.result.choice c.take.result c.take.ensures.becomes early)
 
