@@ -1,3 +1,4 @@
+pub mod Disks
 pub mod Ending
 pub mod Failure
 pub mod Objects

@@ -33,3 +33,12 @@ pub record EntropySeen : Type 0 where
 
 abbrev pub folder_seen : ℕ → Option FileMap → FolderSeen
 folder_seen faults files = record { faults = faults; files = files }
+
+abbrev pub net_seen : ℕ → Option Traffic → NetSeen
+net_seen faults traffic = record { faults = faults; traffic = traffic }
+
+abbrev pub clock_seen : ℕ → Option (List Seconds) → ClockSeen
+clock_seen faults answers = record { faults = faults; answers = answers }
+
+abbrev pub entropy_seen : ℕ → Option (List ℕ) → EntropySeen
+entropy_seen faults bytes = record { faults = faults; bytes = bytes }

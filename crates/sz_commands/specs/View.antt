@@ -5,6 +5,7 @@ use Rattle.sz_commands.specs.declared.failure.Failure.TheVariants.{Usage, NoFile
 use Rattle.sz_commands.specs.declared.failure.Failure.TheVariants.{EntropyFault, ListenerFault, OutOfMemory}
 use Rattle.sz_commands.specs.declared.failure.Failure.TheVariants.{NotInitialised, Damaged, Exhausted, LastSequence}
 use Rattle.sz_commands.specs.declared.failure.Failure.TheVariants.{LevelsRefused, SizeRefused, TooLarge, InUse}
+use Rattle.sz_commands.specs.declared.failure.Failure.TheVariants.{NoSource, MemberRefused, SlotInUse}
 use Rattle.sz_commands.specs.Failure as spec
 
 -- the failure that a value of the program stands for
@@ -16,6 +17,7 @@ failure_of DiskFault = spec.DiskFault
 failure_of ClockFault = spec.ClockFault
 failure_of EntropyFault = spec.EntropyFault
 failure_of ListenerFault = spec.ListenerFault
+failure_of NoSource = spec.NoSource
 failure_of NotInitialised = spec.NotInitialised
 failure_of (Damaged place value) = spec.Damaged place value
 failure_of (Exhausted next end) = spec.Exhausted next end
@@ -23,7 +25,9 @@ failure_of LastSequence = spec.LastSequence
 failure_of (LevelsRefused word) = spec.LevelsRefused word.now
 failure_of (SizeRefused size) = spec.SizeRefused size
 failure_of (TooLarge size) = spec.TooLarge size
+failure_of (MemberRefused name) = spec.MemberRefused name.now
 failure_of InUse = spec.InUse
+failure_of (SlotInUse slot) = spec.SlotInUse slot
 failure_of OutOfMemory = spec.OutOfMemory
 
 -- an answer in which the folder is blamed

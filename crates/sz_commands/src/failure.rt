@@ -23,6 +23,8 @@ pub enum Failure<'a> {
     EntropyFault,
     /// The listener failed.
     ListenerFault,
+    /// No source had what the device may take.
+    NoSource,
     /// A disk holds nothing yet.
     NotInitialised,
     /// A disk holds at this place this value, which no run of this program leaves.
@@ -37,8 +39,12 @@ pub enum Failure<'a> {
     SizeRefused(u64),
     /// The file of this size is too large.
     TooLarge(u64),
+    /// The member of this name is the first of an input that breaks its rule.
+    MemberRefused(&'static [u8]),
     /// The key disk is in use.
     InUse,
+    /// The device disk is in use, as this slot says.
+    SlotInUse(u8),
     /// Memory ran out.
     OutOfMemory,
 }
@@ -55,13 +61,16 @@ impl<'a> Failure<'a> {
             Failure::ClockFault => Ending::ClockFault,
             Failure::EntropyFault => Ending::EntropyFault,
             Failure::ListenerFault => Ending::ListenerFault,
+            Failure::NoSource => Ending::NoSource,
             Failure::NotInitialised => Ending::NotInitialised,
             Failure::Damaged { .. } => Ending::Damaged,
             Failure::Exhausted { .. } | Failure::LastSequence => Ending::Exhausted,
             Failure::LevelsRefused(_)
             | Failure::SizeRefused(_)
             | Failure::TooLarge(_)
-            | Failure::InUse => Ending::Refused,
+            | Failure::MemberRefused(_)
+            | Failure::InUse
+            | Failure::SlotInUse(_) => Ending::Refused,
             Failure::OutOfMemory => Ending::OutOfMemory,
         }
     }
@@ -78,6 +87,7 @@ impl<'a> Failure<'a> {
             Failure::ClockFault => b"clock fault",
             Failure::EntropyFault => b"entropy fault",
             Failure::ListenerFault => b"listener fault",
+            Failure::NoSource => b"no source",
             Failure::NotInitialised => b"not initialised",
             Failure::Damaged { .. } => b"damaged: ",
             Failure::Exhausted { .. } => b"exhausted: ",
@@ -85,7 +95,9 @@ impl<'a> Failure<'a> {
             Failure::LevelsRefused(_) => b"refused: levels ",
             Failure::SizeRefused(_) => b"refused: size ",
             Failure::TooLarge(_) => b"refused: too-large ",
+            Failure::MemberRefused(_) => b"refused: member ",
             Failure::InUse => b"refused: in-use",
+            Failure::SlotInUse(_) => b"refused: in-use ",
             Failure::OutOfMemory => b"out of memory",
         }
     }

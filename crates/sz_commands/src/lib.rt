@@ -10,4 +10,4 @@ mod print;
 pub use ending::{Ending, Status};
 pub use failure::Failure;
 pub use input::{input_size, read_front, read_input};
-pub use print::{say, say_failure, say_number};
+pub use print::{refusal_status, say, say_failure, say_number, say_parts, say_text, write_parts};

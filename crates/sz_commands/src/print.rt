@@ -1,12 +1,13 @@
 //! Printing a command's line.
-ghost use Rattle.std.specs.Prelude.{◌≡◌, ◌==◌, ◌+◌, ◌≤◌, ◌++◌, ◌∷◌, [], OnOk, OnErr, length};
+ghost use Rattle.std.specs.Prelude.{◌≡◌, ◌==◌, ◌+◌, ◌≤◌, ◌++◌, ◌∷◌, [], OnOk, OnErr, length, map};
 ghost use Rattle.std.specs.Fmt.{decimal};
+ghost use Rattle.std.specs.List.{concat};
 ghost use Rattle.sz_base.specs.Fault.{put_failed};
 ghost use Rattle.sz_spec.specs.Cause.{HasCause};
 ghost use Rattle.sz_spec.specs.Told.{Appends, AppendsFront};
 ghost use Rattle.sz_commands.specs.Ending.{number_of, output_fault};
 ghost use Rattle.sz_commands.specs.Failure.{status_of, text_of};
-ghost use Rattle.sz_commands.specs.Printed.{IsPrinted};
+ghost use Rattle.sz_commands.specs.Printed.{IsPrinted, IsWritten, refusal_of};
 ghost use Rattle.sz_commands.specs.View.{failure_of};
 
 use crate::{Ending, Failure, Status};
@@ -30,12 +31,57 @@ pub fn say<O: Sink>(ending: Ending, front: &[u8], rest: &[u8], out: &mut O) -> S
 {
     match print_line(front, rest, out) {
         Ok(()) => Status(ending.number()),
-        Err(PutFault::Failed) => Status(OUTPUT_FAULT),
-        Err(PutFault::OutOfMemory) => Status(Ending::OutOfMemory.number()),
+        Err(fault) => refusal_status(fault),
     }
 }
 
-/// The same of words and a number.
+/// Prints this text as it stands, and gives the status likewise.
+pub fn say_text<O: Sink>(ending: Ending, text: &[u8], out: &mut O) -> Status
+    ensures printed { IsPrinted (number_of ending) text.now result.0 (O.written out.old) (O.written out.new) }
+    ensures cause { HasCause (O.faults out.old) (O.faults out.new) (result.0 == output_fault) }
+{
+    match out.write(text) {
+        Ok(()) => Status(ending.number()),
+        Err(fault) => refusal_status(fault),
+    }
+}
+
+/// The same of a text in parts.
+pub fn say_parts<O: Sink>(ending: Ending, parts: &[&[u8]], out: &mut O) -> Status
+    ensures printed { IsPrinted (number_of ending) (concat (map (λ part. part.now) parts.now)) result.0
+        (O.written out.old) (O.written out.new) }
+    ensures cause { HasCause (O.faults out.old) (O.faults out.new) (result.0 == output_fault) }
+{
+    match write_parts(parts, out) {
+        Ok(()) => Status(ending.number()),
+        Err(fault) => refusal_status(fault),
+    }
+}
+
+/// The status where a text was refused, whatever the work came to.
+pub fn refusal_status(fault: PutFault) -> Status
+    ensures { result.0 ≡ refusal_of fault }
+{
+    match fault {
+        PutFault::Failed => Status(OUTPUT_FAULT),
+        PutFault::OutOfMemory => Status(Ending::OutOfMemory.number()),
+    }
+}
+
+/// Writes these parts one after another. Of a part that is refused a front may have gone out, and nothing goes out
+/// behind it.
+pub fn write_parts<O: Sink>(parts: &[&[u8]], out: &mut O) -> Result<(), PutFault>
+    ensures written { IsWritten (concat (map (λ part. part.now) parts.now)) result
+        (O.written out.old) (O.written out.new) }
+    ensures cause { HasCause (O.faults out.old) (O.faults out.new) (put_failed result) }
+{
+    for part in parts {
+        out.write(part)?;
+    }
+    Ok(())
+}
+
+/// Prints words, a number and the LF, and gives the status likewise.
 pub fn say_number<O: Sink>(ending: Ending, words: &[u8], number: u64, out: &mut O) -> Status
     ensures printed { IsPrinted (number_of ending) (words.now ++ decimal number ++ 10 ∷ []) result.0
         (O.written out.old) (O.written out.new) }
@@ -98,9 +144,11 @@ pub fn say_failure<O: Sink>(failure: Failure<'_>, out: &mut O) -> Status
         Failure::NoFile(path) | Failure::FileFault(path) | Failure::LevelsRefused(path) => {
             say(ending, words, path.as_slice(), out)
         }
+        Failure::MemberRefused(name) => say(ending, words, name, out),
         Failure::SizeRefused(size) | Failure::TooLarge(size) => {
             say_number(ending, words, size, out)
         }
+        Failure::SlotInUse(slot) => say_number(ending, words, u64::from(slot), out),
         Failure::Damaged { place, value } => { say_numbers(ending, words, place, b" ", value, out) }
         Failure::Exhausted { next, end } => say_numbers(ending, words, next, b" of ", end, out),
         _ => say(ending, words, b"", out),

@@ -1,10 +1,10 @@
 -- What it comes to that a key is made on a disk and its public key written to a file.
-use Rattle.std.specs.Prelude.{◌≡◌, ◌⊎◌, ◌<◌, ◌≤◌, ℕ, Bool, false, List, Result, Ok, Err}
+use Rattle.std.specs.Prelude.{◌≡◌, ◌⊎◌, ◌<◌, ◌≤◌, ℕ, List, Result, Ok, Err}
 use Rattle.std.specs.Option.{option_map}
 use Rattle.sz_cell.specs.Cell.{NoneOpen}
 use Rattle.sz_cell.specs.Transition.{IsInUse}
 use Rattle.sz_commands.specs.Failure.{Failure, FileFault, DiskFault, EntropyFault, SizeRefused, InUse, OutOfMemory}
-use Rattle.sz_commands.specs.Failure.{blames_disk, blames_entropy, blames_folder}
+use Rattle.sz_commands.specs.Failure.{blames, blames_disk, blames_entropy, blames_folder}
 use Rattle.sz_commands.specs.Objects.{EntropySeen, FolderSeen}
 use Rattle.sz_disk.specs.Disk.{Seen}
 use Rattle.sz_hss.specs.Key.{HssKey, Shape}
@@ -18,11 +18,6 @@ use Rattle.sz_spec.specs.Cause.{HasCause}
 -- The end of the key's leaf numbers, or a failure.
 abbrev pub Answer : Type 0
 Answer = Result ℕ Failure
-
--- whether an answer blames this
-abbrev pub blames : (Failure → Bool) → Answer → Bool
-blames test (Ok end) = false
-blames test (Err failure) = test failure
 
 -- The folder and the source of random bytes, before or after.
 pub record Beside : Type 0 where

@@ -1,10 +1,9 @@
 -- What `keygen LEVELS PUBLIC @KEY` comes to, over the disks, the folder and the random bytes before and after.
 use Rattle.std.specs.Prelude.{◌≡◌, ◌⊎◌, ℕ, List, Option, Some, None, Err}
-use Rattle.std.specs.List.{find}
-use Rattle.std.specs.Option.{option_map}
+use Rattle.sz_commands.specs.Disks.{disk_under}
 use Rattle.sz_commands.specs.Failure.{LevelsRefused, NoFile}
 use Rattle.sz_disk.specs.Disk.{Seen}
-use Rattle.sz_disk.specs.Disks.{has_name, with_disk}
+use Rattle.sz_disk.specs.Disks.{with_disk}
 use Rattle.sz_hss.specs.Key.{Shape}
 use Rattle.sz_hss.specs.LevelsText.{IsLevelsText}
 use Rattle.sz_keys.specs.KeyMade.{Answer, Beside, KeyMade}
@@ -14,10 +13,6 @@ pub record Words : Type 0 where
   pub levels : List ℕ
   pub public : List ℕ
   pub key : List ℕ
-
--- the disk in the first entry of this name
-abbrev pub disk_under : {X : Type 0} → List (List ℕ × X) → List ℕ → Option X
-disk_under disks name = option_map (λ entry. entry.1) (find (has_name name) disks)
 
 -- what a keygen uses of the outside
 pub record KeygenSeen (D : Type 0) : Type 0 where

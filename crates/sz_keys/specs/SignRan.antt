@@ -1,13 +1,12 @@
 -- What `sign FILE SIGNATURE @KEY` comes to, over the disks and the folder before and after.
 use Rattle.std.specs.Prelude.{◌≡◌, ◌⊎◌, ◌<◌, ◌≤◌, ℕ, List, Option, Some, None, Result, Ok, Err, IfSome, length}
 use Rattle.std.specs.Option.{option_map}
-use Rattle.sz_commands.specs.Failure.{Failure, FileFault, NoFile, OutOfMemory, TooLarge, blames_disk, blames_folder}
+use Rattle.sz_commands.specs.Disks.{disk_under}
+use Rattle.sz_commands.specs.Failure.{Failure, FileFault, NoFile, OutOfMemory, TooLarge, blames, blames_disk, blames_folder}
 use Rattle.sz_commands.specs.Objects.{FolderSeen}
 use Rattle.sz_disk.specs.Disk.{Seen}
 use Rattle.sz_disk.specs.Disks.{with_disk}
 use Rattle.sz_io.specs.Folder.{ChangesOnly, FileMap, bytes_at, with_file}
-use Rattle.sz_keys.specs.KeygenRan.{disk_under}
-use Rattle.sz_keys.specs.KeyMade.{blames}
 use Rattle.sz_keys.specs.LeafSpent.{IsSpent, MaySpend}
 use Rattle.sz_signer.specs.State.{SignerState}
 use Rattle.sz_spec.specs.Cause.{HasCause}

@@ -1,5 +1,5 @@
 use Rattle.std.proofs.Common.{◌≡◌, None, inl, inr, refl, rules, arith}
-use Rattle.sz_keys.specs.KeygenRan.{disk_under}
+use Rattle.sz_commands.specs.Disks.{disk_under}
 use Rattle.sz_keys.proofs.sign_command.sign.Goals as goal
 
 pub returns-in_default : goal.returns-in_default
