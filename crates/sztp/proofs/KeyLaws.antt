@@ -2,8 +2,9 @@
 use Rattle.std.proofs.Common.{◌≡◌, ◌⊎◌, ℕ, Bool, true, false, List, [], ◌∷◌, Option, Some, None, IfSome, Result, Ok, Err, IsTrue, refl, sym, subst, inl, inr, arith, cond}
 use Rattle.std.specs.List.{find}
 use Rattle.std.specs.Option.{option_map}
-use Rattle.sz_commands.specs.Failure.{Failure, Usage, NoFile, FileFault, DiskFault, ClockFault, EntropyFault, ListenerFault, LevelsRefused, OutOfMemory}
-use Rattle.sz_commands.specs.Failure.{blames_disk, blames_entropy, blames_folder}
+use Rattle.sz_commands.specs.Failure.{Failure, Usage, NoFile, FileFault, DiskFault, ClockFault, EntropyFault, ListenerFault, NoSource, LevelsRefused, OutOfMemory}
+use Rattle.sz_commands.specs.Disks.{disk_under}
+use Rattle.sz_commands.specs.Failure.{blames, blames_disk, blames_entropy, blames_folder}
 use Rattle.sz_commands.specs.Objects.{FolderSeen}
 use Rattle.sz_hss.specs.Key.{Shape}
 use Rattle.sz_keys.specs.LeafSpent.{IsSpent}
@@ -12,9 +13,9 @@ use Rattle.sz_disk.specs.Disk.{Seen}
 use Rattle.sz_disk.specs.Disks.{has_name, with_disk}
 use Rattle.sz_io.specs.Folder.{FileMap, bytes_at}
 use Rattle.sz_keys.specs.KeyLine.{status_of}
-use Rattle.sz_keys.specs.KeyMade.{Beside, MayMake, blames}
+use Rattle.sz_keys.specs.KeyMade.{Beside, MayMake}
 use Rattle.sz_keys.specs.KeygenRan as keygen
-use Rattle.sz_keys.specs.KeygenRan.{KeygenRan, KeygenSeen, disk_under}
+use Rattle.sz_keys.specs.KeygenRan.{KeygenRan, KeygenSeen}
 use Rattle.sz_keys.specs.SignRan as sign
 use Rattle.sz_keys.specs.SignRan.{HasSpent, IsUnsigned, MaySign, SignRan, SignSeen}
 use Rattle.sz_spec.specs.Cause.{Rose, HasCause}
@@ -46,6 +47,7 @@ IsPossible (Ok n) = Unit {0}
 IsPossible (Err Usage) = ⊥
 IsPossible (Err ClockFault) = ⊥
 IsPossible (Err ListenerFault) = ⊥
+IsPossible (Err NoSource) = ⊥
 IsPossible (Err _) = Unit {0}
 
 pub never-usage : (answer : Answer) → IsPossible answer → status_of answer ≡ 2 → ⊥
@@ -57,6 +59,21 @@ pub never-clock : (answer : Answer) → IsPossible answer → status_of answer �
 never-clock (Ok n) may is = omega arith
 never-clock (Err ClockFault) may is = may
 never-clock (Err _) may is = omega arith
+
+pub never-finding : (answer : Answer) → status_of answer ≡ 3 → ⊥
+never-finding (Ok n) is = omega arith
+never-finding (Err Usage) is = omega arith
+never-finding (Err _) is = omega arith
+
+pub never-restart : (answer : Answer) → status_of answer ≡ 10 → ⊥
+never-restart (Ok n) is = omega arith
+never-restart (Err Usage) is = omega arith
+never-restart (Err _) is = omega arith
+
+pub never-sourceless : (answer : Answer) → IsPossible answer → status_of answer ≡ 20 → ⊥
+never-sourceless (Ok n) may is = omega arith
+never-sourceless (Err NoSource) may is = may
+never-sourceless (Err _) may is = omega arith
 
 pub never-listener : (answer : Answer) → IsPossible answer → status_of answer ≡ 35 → ⊥
 never-listener (Ok n) may is = omega arith
@@ -88,7 +105,7 @@ under-with name [] old new held = cc held
 under-with name (entry ∷ disks) old new held =
     under-step name entry disks old new (has_name name entry) refl (under-with name disks old new) held
 
-under-after : {X : Type 0} (name : List ℕ) (before after : List (List ℕ × X)) (old new : X) → disk_under before name ≡ Some old
+pub under-after : {X : Type 0} (name : List ℕ) (before after : List (List ℕ × X)) (old new : X) → disk_under before name ≡ Some old
     → after ≡ with_disk name before new → disk_under after name ≡ Some new
 under-after {X} name before after old new held others =
     subst (λ (disks : List (List ℕ × X)). disk_under disks name ≡ Some new) (sym others) (under-with name before old new held)
@@ -101,6 +118,7 @@ made-possible seen shapes public old new before after (Ok n) may = tt
 made-possible seen shapes public old new before after (Err Usage) may = may
 made-possible seen shapes public old new before after (Err ClockFault) may = may
 made-possible seen shapes public old new before after (Err ListenerFault) may = may
+made-possible seen shapes public old new before after (Err NoSource) may = may
 made-possible seen shapes public old new before after (Err _) may = tt
 
 module _ {D : Type 0} (seen : D → Seen) (words : keygen.Words) (before after : KeygenSeen D) (answer : Answer) where
@@ -134,10 +152,10 @@ module _ {D : Type 0} (seen : D → Seen) (words : keygen.Words) (before after :
   keygen-entropy (inr (inr on)) is = on.made.entropy.rose (subst (λ (a : Answer). IsTrue (blames blames_entropy a)) (sym (entropy-only answer is)) refl)
 
   pub keygen-file : KeygenRan seen words before after answer → status_of answer ≡ 33
-      → Rose before.beside.folder.faults after.beside.folder.faults ⊎ ((word : List ℕ) × (disk_under before.disks word ≡ None))
+      → Rose before.beside.folder.faults after.beside.folder.faults ⊎ (disk_under before.disks words.key ≡ None)
   keygen-file (inl none) is =
       let e = refused-levels answer words.levels 33 none.answer_is is in absurd (omega arith)
-  keygen-file (inr (inl none)) is = inr (words.key, none.none)
+  keygen-file (inr (inl none)) is = inr none.none
   keygen-file (inr (inr on)) is =
       elim (file-only answer is) [
         | inl blamed ↦ inl (on.made.folder.rose blamed)
@@ -150,6 +168,7 @@ unsigned-possible : (path : List ℕ) (told : Option FileMap) (failure : Failure
 unsigned-possible path told Usage may = may
 unsigned-possible path told ClockFault may = may
 unsigned-possible path told ListenerFault may = may
+unsigned-possible path told NoSource may = may
 unsigned-possible path told _ may = tt
 
 unsigned-disk : (path : List ℕ) (told : Option FileMap) (failure : Failure) → IsUnsigned path told failure → status_of (Err failure) ≡ 30 → ⊥
@@ -162,8 +181,8 @@ unsigned-entropy path told _ may is = omega arith
 
 unsigned-file : (path : List ℕ) (told : Option FileMap) (failure : Failure) (before now : ℕ) → IsUnsigned path told failure
     → HasCause before now (blames_folder failure) → status_of (Err failure) ≡ 33
-    → Rose before now ⊎ ((named : List ℕ) × IfSome told (λ files. bytes_at files named ≡ None))
-unsigned-file path told (NoFile named) before now may cause is = inr (path, may.1)
+    → Rose before now ⊎ IfSome told (λ files. bytes_at files path ≡ None)
+unsigned-file path told (NoFile named) before now may cause is = inr may.1
 unsigned-file path told (FileFault named) before now may cause is = inl (cause.rose refl)
 unsigned-file path told _ before now may cause is = absurd (omega arith)
 
@@ -173,6 +192,7 @@ signed-possible seen message path old new before after (Ok n) may = tt
 signed-possible seen message path old new before after (Err Usage) may = may.0
 signed-possible seen message path old new before after (Err ClockFault) may = may.0
 signed-possible seen message path old new before after (Err ListenerFault) may = may.0
+signed-possible seen message path old new before after (Err NoSource) may = may.0
 signed-possible seen message path old new before after (Err _) may = tt
 
 -- the file of the signature is changed only where the leaf number is spent
@@ -214,12 +234,11 @@ module _ {D : Type 0} (seen : D → Seen) (words : sign.Words) (before after : S
 
   pub sign-file : SignRan seen words before after answer → status_of answer ≡ 33
       → Rose before.folder.faults after.folder.faults
-      ⊎ (((named : List ℕ) × IfSome before.folder.files (λ files. bytes_at files named ≡ None))
-      ⊎ ((word : List ℕ) × (disk_under before.disks word ≡ None)))
+      ⊎ (IfSome before.folder.files (λ files. bytes_at files words.file ≡ None) ⊎ (disk_under before.disks words.key ≡ None))
   sign-file (inl m) is =
       elim (unsigned-file words.file before.folder.files m.failure before.folder.faults after.folder.faults m.unsigned m.cause
       (other-status answer m.failure 33 m.answer_is is)) [ inl rose ↦ inl rose | inr absent ↦ inr (inl absent) ]
-  sign-file (inr (inl none)) is = inr (inr (words.key, none.none))
+  sign-file (inr (inl none)) is = inr (inr none.none)
   sign-file (inr (inr on)) is =
       elim (file-only answer is) [
         | inl blamed ↦ inl (on.signed.folder.rose blamed)

@@ -1,5 +1,5 @@
 -- What follows from what a run came to.
-use Rattle.std.proofs.Common.{◌≡◌, ◌≢◌, ◌==◌, ◌⊎◌, ℕ, true, List, Option, Some, None, IfSome, IsSome, Ok, Err, refl, sym, subst, ◌∙◌, inl, inr, arith}
+use Rattle.std.proofs.Common.{◌≡◌, ◌≢◌, ◌==◌, ◌⊎◌, ℕ, true, List, Option, Some, None, IfSome, Ok, Err, refl, sym, subst, ◌∙◌, inl, inr, arith}
 use Rattle.sz_spec.specs.Cause.{Rose, HasCause}
 use Rattle.sz_spec.specs.Told.{Appends}
 use Rattle.sz_io.specs.Folder.{FileMap, bytes_at}
@@ -9,16 +9,27 @@ use Rattle.sz_commands.specs.Failure.{Failure, Usage, NoFile, FileFault, OutOfMe
 use Rattle.sz_commands.specs.Failure as failure
 use Rattle.sz_commands.specs.Printed.{IsPrinted}
 use Rattle.sz_keys.specs.CheckLine.{status_of, text_of}
-use Rattle.sz_keys.specs.CheckRan.{Answer, IsSigned, MayAnswer, Paths, answer_over, is_file_fault}
+use Rattle.sz_keys.specs.CheckRan.{Answer, IsSigned, MayAnswer, Names, Paths, answer_over, is_file_fault}
 use Rattle.sz_disk.specs.Disk.{Seen}
 use Rattle.sz_keys.specs.KeyLine as line
 use Rattle.sz_keys.specs.SignRan as sign
 use Rattle.sz_keys.specs.SignRan.{HasSpent}
-use Rattle.sztp.specs.Causes.{DiskRose, LacksDisk, LacksFile, HasCauses}
+use Rattle.sztp.specs.Causes.{DiskRose, HasCauses, IsFinding, LacksDisk, LacksFile}
 use Rattle.sztp.specs.Outside.{Outside}
-use Rattle.sztp.specs.Ran.{EndsBy, Checks, Says, Does, RunOk, keygen_part, sign_part}
-use Rattle.sztp.specs.Words.{Command, Check, Keygen, Sign, words_of}
-use Rattle.sztp.proofs.KeyLaws.{never-clock, never-listener, never-usage}
+use Rattle.sz_device.specs.AuditRan as audit
+use Rattle.sz_device.specs.DoneLine as done
+use Rattle.sz_device.specs.OnboardRan as onboard
+use Rattle.sz_audit.specs.Audit.{Audits}
+use Rattle.sz_device.specs.InitRan as init
+use Rattle.sz_device.specs.OnboardText as report
+use Rattle.sz_device.specs.ShowRan as show
+use Rattle.sz_device.specs.Sources.{NamesNone}
+use Rattle.sztp.specs.Ran.{AuditsDevice, EndsBy, Checks, Inits, Onboards, Says, ShowsDevice, Does, RunOk, init_part, keygen_part, onboard_part, sign_part}
+use Rattle.sztp.specs.Words.{Command, Check, Keygen, Sign, Init, Onboard, Show, Audit, IsNoCommand, words_of}
+use Rattle.sztp.proofs.DeviceLaws.{FailsWith, IsQuiet, audit-fails, done-fails, never-10, never-2, never-20, never-3, never-31, never-34, never-35}
+use Rattle.sztp.proofs.DeviceLaws.{init-disk, init-file, init-quiet, looked-disk, looked-file, looked-quiet}
+use Rattle.sztp.proofs.DeviceLaws.{onboard-3, onboard-clock, onboard-disk, onboard-entropy, onboard-file, onboard-installs, onboard-leaves, onboard-listener, onboard-usage}
+use Rattle.sztp.proofs.KeyLaws.{never-clock, never-finding, never-listener, never-restart, never-sourceless, never-usage}
 use Rattle.sztp.proofs.KeyLaws.{keygen-disk, keygen-entropy, keygen-file, keygen-possible}
 use Rattle.sztp.proofs.KeyLaws.{sign-disk, sign-entropy, sign-file, sign-files, sign-possible}
 
@@ -88,25 +99,25 @@ missing (Some x) (Some y) (Some z) verdict p q r path ok is = absurd (ok x y z i
 no_file : (rule : Option Rule) (path : List ℕ) (answer : Answer) → answer ≡ Ok rule → answer ≡ Err (NoFile path) → ⊥
 no_file rule path answer is_ok is_err = cc
 
-lacks : (files : FileMap) (paths : Paths) (path : List ℕ) → answer_over files paths ≡ Err (NoFile path) → (named : List ℕ) × (bytes_at files named ≡ None)
+lacks : (files : FileMap) (paths : Paths) (path : List ℕ) → answer_over files paths ≡ Err (NoFile path) → (named : List ℕ) × Names paths named × (bytes_at files named ≡ None)
 lacks files paths path is =
     elim (missing (bytes_at files paths.public) (bytes_at files paths.file) (bytes_at files paths.signature) (λ x y z. Ok (hss_first x y z)) paths.public paths.file paths.signature path
     (λ x y z ok. no_file (hss_first x y z) path (Ok (hss_first x y z)) refl ok) is) [
-      | inl none ↦ (paths.public, none)
-      | inr others ↦ elim others [ inl none ↦ (paths.file, none) | inr none ↦ (paths.signature, none) ]
+      | inl none ↦ (paths.public, inl refl, none)
+      | inr others ↦ elim others [ inl none ↦ (paths.file, inr (inl refl), none) | inr none ↦ (paths.signature, inr (inr refl), none) ]
     ]
 
-absent : (paths : Paths) (told : Option FileMap) (path : List ℕ) → IfSome told (λ files. answer_over files paths ≡ Err (NoFile path))
-    → (named : List ℕ) × IfSome told (λ files. bytes_at files named ≡ None)
-absent paths None path is = (path, tt)
-absent paths (Some files) path is = lacks files paths path is
+absent : (paths : Paths) (told : Option FileMap) (path : List ℕ) → Names paths path → IfSome told (λ files. answer_over files paths ≡ Err (NoFile path))
+    → (named : List ℕ) × Names paths named × IfSome told (λ files. bytes_at files named ≡ None)
+absent paths None path named is = (path, named, tt)
+absent paths (Some files) path named is = lacks files paths path is
 
 -- a status that blames a file comes where the folder's count rose, or a file isn't there
 blamed : (paths : Paths) (told : Option FileMap) (answer : Answer) (before now : ℕ) → MayAnswer paths told answer → HasCause before now (is_file_fault answer)
-    → status_of answer ≡ 33 → Rose before now ⊎ ((named : List ℕ) × IfSome told (λ files. bytes_at files named ≡ None))
+    → status_of answer ≡ 33 → Rose before now ⊎ ((named : List ℕ) × Names paths named × IfSome told (λ files. bytes_at files named ≡ None))
 blamed paths told (Ok None) before now may cause is = absurd (omega arith)
 blamed paths told (Ok (Some rule)) before now may cause is = absurd (omega arith)
-blamed paths told (Err (NoFile path)) before now may cause is = inr (absent paths told path may.1)
+blamed paths told (Err (NoFile path)) before now may cause is = inr (absent paths told path may.0 may.1)
 blamed paths told (Err (FileFault path)) before now may cause is = inl (cause.rose refl)
 blamed paths told (Err OutOfMemory) before now may cause is = absurd (omega arith)
 blamed paths told (Err _) before now may cause is = absurd may
@@ -126,7 +137,7 @@ module _ {D : Type 0} (seen : D → Seen) (before after : Outside D) (status : �
   -- the five ways in which a check ends
   check_ends : (paths : Paths) → Checks paths before after status
       → (status ≡ 0) ⊎ ((status ≡ 3) ⊎ ((status ≡ 70) ⊎ ((status ≡ 32)
-      ⊎ ((status ≡ 33) × (Rose before.folder.faults after.folder.faults ⊎ LacksFile before)))))
+      ⊎ ((status ≡ 33) × (Rose before.folder.faults after.folder.faults ⊎ LacksFile (Check paths) before)))))
   check_ends paths c =
       elim c.says.printed [
         | inl printed ↦ elim (check_status paths before.folder.files c.answer c.ran.may status (sym printed.0)) [
@@ -159,6 +170,10 @@ module _ {D : Type 0} (seen : D → Seen) (before after : Outside D) (status : �
   does_output (Some (Check paths)) does = does.says.cause
   does_output (Some (Keygen words)) does = does.says.cause
   does_output (Some (Sign words)) does = does.says.cause
+  does_output (Some (Init words)) does = does.says.cause
+  does_output (Some (Onboard words)) does = does.says.cause
+  does_output (Some (Show disk)) does = does.says.cause
+  does_output (Some (Audit disk)) does = does.says.cause
 
   pub run_output : (words : List (List ℕ)) → RunOk seen words before after status → HasCause before.out.faults after.out.faults (status == 32)
   run_output words (inl does) = does_output (words_of words) does
@@ -184,6 +199,30 @@ module _ {D : Type 0} (seen : D → Seen) (before after : Outside D) (status : �
       → (after.folder.files ≡ before.folder.files) ⊎ HasSpent seen own (sign_part before) (sign_part after)
   run_spends words own (inl does) is = does_spend (words_of words) own does is
   run_spends words own (inr memory) is = inl (rw memory.folder refl)
+
+  -- what 10 and 20 say of an onboard
+  onboarded : (words : List (List ℕ)) (own : onboard.Words) (n : ℕ) → RunOk seen words before after status → words_of words ≡ Some (Onboard own)
+      → status ≡ n → 32 ≢ n → 70 ≢ n → Onboards seen own before after status
+  onboarded words own n (inl does) is status_is output memory = subst (λ (c : Option Command). Does seen c before after status) is does
+  onboarded words own n (inr ended) is status_is output memory =
+      elim (failure_ends OutOfMemory ended) [
+        | inl o ↦ absurd (memory (sym o ∙ status_is))
+        | inr other ↦ elim other [ inl o ↦ absurd (output (sym o ∙ status_is)) | inr r ↦ absurd (memory (sym r ∙ status_is)) ]
+      ]
+
+  pub run_installs : (words : List (List ℕ)) (own : onboard.Words) → RunOk seen words before after status → words_of words ≡ Some (Onboard own)
+      → status ≡ 10 → onboard.IsBootOf seen onboard.PutsInPlace own (onboard_part before) (onboard_part after)
+  run_installs words own ran is ten_is =
+      let does = onboarded words own 10 ran is ten_is (λ x. omega arith) (λ x. omega arith) in
+      onboard-installs seen own (onboard_part before) (onboard_part after) does.answer does.ran
+      (own_is (report.status_of does.answer) 10 _ does.says ten_is (λ x. omega arith) (λ x. omega arith))
+
+  pub run_leaves : (words : List (List ℕ)) (own : onboard.Words) → RunOk seen words before after status → words_of words ≡ Some (Onboard own)
+      → status ≡ 20 → onboard.IsBootOf seen onboard.LeavesUncommitted own (onboard_part before) (onboard_part after)
+  run_leaves words own ran is twenty_is =
+      let does = onboarded words own 20 ran is twenty_is (λ x. omega arith) (λ x. omega arith) in
+      onboard-leaves seen own (onboard_part before) (onboard_part after) does.answer does.ran
+      (own_is (report.status_of does.answer) 20 _ does.says twenty_is (λ x. omega arith) (λ x. omega arith))
 
   checked : (words : List (List ℕ)) (paths : Paths) → RunOk seen words before after status → words_of words ≡ Some (Check paths) → status ≢ 70 → status ≢ 32
       → Checks paths before after status
@@ -214,10 +253,80 @@ module _ {D : Type 0} (seen : D → Seen) (before after : Outside D) (status : �
       let c = checked words paths ran is room output in
       exact_told paths before.folder.files c.answer status before.out.written after.out.written c.ran.may (λ failed. stood (c.ran.cause.rose failed)) room (own_of paths c room output)
 
+  -- ---- the failures of the commands of a device
+
+  -- what a status that only a failure has says: the answer is that failure
+  init_fails : (words : init.Words) (n : ℕ) (does : Inits seen words before after status) → status ≡ n → 0 ≢ n → 32 ≢ n → 70 ≢ n
+      → FailsWith does.answer n
+  init_fails words n does is some output memory =
+      done-fails does.answer n (own_is (done.status_of does.answer) n _ does.says is output memory) some
+
+  init_ran : (words : init.Words) (n : ℕ) (does : Inits seen words before after status) (fails : FailsWith does.answer n)
+      → init.InitRan seen words (init_part before) (init_part after) (Err fails.f)
+  init_ran words n does fails = subst (init.InitRan seen words (init_part before) (init_part after)) fails.answer_is does.ran
+
+  show_fails : (disk : List ℕ) (n : ℕ) (does : ShowsDevice seen disk before after status) → status ≡ n → 0 ≢ n → 32 ≢ n → 70 ≢ n
+      → FailsWith does.answer n
+  show_fails disk n does is some output memory =
+      done-fails does.answer n (own_is (done.status_of does.answer) n _ does.says is output memory) some
+
+  show_ran : (disk : List ℕ) (n : ℕ) (does : ShowsDevice seen disk before after status) (fails : FailsWith does.answer n)
+      → show.ShowRan seen disk before.disks after.disks (Err fails.f)
+  show_ran disk n does fails = subst (show.ShowRan seen disk before.disks after.disks) fails.answer_is does.ran
+
+  audit_fails : (disk : List ℕ) (n : ℕ) (does : AuditsDevice seen disk before after status) → status ≡ n → 0 ≢ n → 3 ≢ n → 32 ≢ n → 70 ≢ n
+      → FailsWith does.answer n
+  audit_fails disk n does is some invalid output memory =
+      audit-fails does.answer n (own_is (audit.status_of does.answer) n _ does.says is output memory) some invalid
+
+  audit_ran : (disk : List ℕ) (n : ℕ) (does : AuditsDevice seen disk before after status) (fails : FailsWith does.answer n)
+      → audit.AuditRan seen disk before.disks after.disks (Err fails.f)
+  audit_ran disk n does fails = subst (audit.AuditRan seen disk before.disks after.disks) fails.answer_is does.ran
+
+  onboard_own : (words : onboard.Words) (n : ℕ) (does : Onboards seen words before after status) → status ≡ n → 32 ≢ n → 70 ≢ n
+      → report.status_of does.answer ≡ n
+  onboard_own words n does is output memory = own_is (report.status_of does.answer) n _ does.says is output memory
+
+  -- statuses that no failure of an init, a show or an audit has
+  init_never : (words : init.Words) (n : ℕ) → ((f : Failure) → IsQuiet f → failure.status_of f ≡ n → ⊥)
+      → Inits seen words before after status → status ≡ n → 0 ≢ n → 32 ≢ n → 70 ≢ n → ⊥
+  init_never words n never does is some output memory =
+      let fails = init_fails words n does is some output memory in
+      never fails.f (init-quiet seen words (init_part before) (init_part after) fails.f (init_ran words n does fails)) fails.status_is
+
+  show_never : (disk : List ℕ) (n : ℕ) → ((f : Failure) → IsQuiet f → failure.status_of f ≡ n → ⊥)
+      → ShowsDevice seen disk before after status → status ≡ n → 0 ≢ n → 32 ≢ n → 70 ≢ n → ⊥
+  show_never disk n never does is some output memory =
+      let fails = show_fails disk n does is some output memory in
+      never fails.f (looked-quiet seen show.Shows disk before.disks after.disks fails.f (show_ran disk n does fails)) fails.status_is
+
+  audit_never : (disk : List ℕ) (n : ℕ) → ((f : Failure) → IsQuiet f → failure.status_of f ≡ n → ⊥)
+      → AuditsDevice seen disk before after status → status ≡ n → 0 ≢ n → 3 ≢ n → 32 ≢ n → 70 ≢ n → ⊥
+  audit_never disk n never does is some invalid output memory =
+      let fails = audit_fails disk n does is some invalid output memory in
+      never fails.f (looked-quiet seen Audits disk before.disks after.disks fails.f (audit_ran disk n does fails)) fails.status_is
+
   -- ---- what each status says
 
-  does_usage : (command : Option Command) → Does seen command before after status → status ≡ 2 → command ≡ None
-  does_usage None does is = refl
+  -- the command is none, or an onboard of which some SOURCE is none
+  abbrev IsUsage : Option Command → Type 0
+  IsUsage command = (command ≡ None) ⊎ ((own : onboard.Words) × (command ≡ Some (Onboard own)) × NamesNone own.sources)
+
+  does_usage : (command : Option Command) → Does seen command before after status → status ≡ 2 → IsUsage command
+  does_usage None does is = inl refl
+  does_usage (Some (Init words)) does is =
+      absurd (init_never words 2 never-2 does is (λ x. omega arith) (λ x. omega arith) (λ x. omega arith))
+  does_usage (Some (Show disk)) does is =
+      absurd (show_never disk 2 never-2 does is (λ x. omega arith) (λ x. omega arith) (λ x. omega arith))
+  does_usage (Some (Audit disk)) does is =
+      absurd (audit_never disk 2 never-2 does is (λ x. omega arith) (λ x. omega arith) (λ x. omega arith) (λ x. omega arith))
+  does_usage (Some (Onboard words)) does is =
+      inr (
+        words,
+        refl,
+        onboard-usage seen words (onboard_part before) (onboard_part after) does.answer does.ran
+            (onboard_own words 2 does is (λ x. omega arith) (λ x. omega arith)),
+      )
   does_usage (Some (Check paths)) does is =
       elim (check_ends paths does) [
         | inl e ↦ absurd (omega arith)
@@ -230,7 +339,7 @@ module _ {D : Type 0} (seen : D → Seen) (before after : Outside D) (status : �
       absurd (never-usage does.answer (sign-possible seen words (sign_part before) (sign_part after) does.answer does.ran)
       (own_is (line.status_of does.answer) 2 _ does.says is (λ x. omega arith) (λ x. omega arith)))
 
-  usage_of : (words : List (List ℕ)) → RunOk seen words before after status → status ≡ 2 → words_of words ≡ None
+  usage_of : (words : List (List ℕ)) → RunOk seen words before after status → status ≡ 2 → IsNoCommand words
   usage_of words (inl does) is = does_usage (words_of words) does is
   usage_of words (inr memory) is =
       elim (failure_ends OutOfMemory memory) [ inl own ↦ absurd (omega arith) | inr other ↦ elim other [ inl o ↦ absurd (omega arith) | inr r ↦ absurd (omega arith) ] ]
@@ -247,24 +356,84 @@ module _ {D : Type 0} (seen : D → Seen) (before after : Outside D) (status : �
         | inr p ↦ elim p [ inl o ↦ b (sym o ∙ is) | inr q ↦ elim q [ inl o ↦ f (sym o ∙ is) | inr r ↦ elim r [ inl o ↦ d (sym o ∙ is) | inr o ↦ e (sym o.0 ∙ is) ] ] ]
       ]
 
-  does_three : (command : Option Command) → Does seen command before after status → status ≡ 3 → IsSome command
+  -- only a check and an audit end with a finding
+  does_three : (command : Option Command) → Does seen command before after status → status ≡ 3
+      → ((paths : Paths) × (command ≡ Some (Check paths))) ⊎ ((disk : List ℕ) × (command ≡ Some (Audit disk)))
   does_three None does is = absurd (quiet_status Usage 2 refl does 3 is (λ x. omega arith) (λ x. omega arith) (λ x. omega arith))
-  does_three (Some command) does is = refl
+  does_three (Some (Check paths)) does is = inl (paths, refl)
+  does_three (Some (Audit disk)) does is = inr (disk, refl)
+  does_three (Some (Keygen words)) does is =
+      absurd (never-finding does.answer (own_is (line.status_of does.answer) 3 _ does.says is (λ x. omega arith) (λ x. omega arith)))
+  does_three (Some (Sign words)) does is =
+      absurd (never-finding does.answer (own_is (line.status_of does.answer) 3 _ does.says is (λ x. omega arith) (λ x. omega arith)))
+  does_three (Some (Init words)) does is =
+      absurd (init_never words 3 (λ f quiet. never-3 f) does is (λ x. omega arith) (λ x. omega arith) (λ x. omega arith))
+  does_three (Some (Show disk)) does is =
+      absurd (show_never disk 3 (λ f quiet. never-3 f) does is (λ x. omega arith) (λ x. omega arith) (λ x. omega arith))
+  does_three (Some (Onboard words)) does is =
+      absurd (onboard-3 does.answer (onboard_own words 3 does is (λ x. omega arith) (λ x. omega arith)))
 
-  three_of : (words : List (List ℕ)) → RunOk seen words before after status → status ≡ 3 → IsSome (words_of words)
+  three_of : (words : List (List ℕ)) → RunOk seen words before after status → status ≡ 3 → IsFinding words
   three_of words (inl does) is = does_three (words_of words) does is
   three_of words (inr memory) is = absurd (quiet_status OutOfMemory 70 refl memory 3 is (λ x. omega arith) (λ x. omega arith) (λ x. omega arith))
 
-  does_clock : (command : Option Command) → Does seen command before after status → status ≡ 31 → ⊥
-  does_clock None does is = quiet_status Usage 2 refl does 31 is (λ x. omega arith) (λ x. omega arith) (λ x. omega arith)
+  -- only an onboard ends with a restart
+  does_restart : (command : Option Command) → Does seen command before after status → status ≡ 10
+      → (own : onboard.Words) × (command ≡ Some (Onboard own))
+  does_restart None does is = absurd (quiet_status Usage 2 refl does 10 is (λ x. omega arith) (λ x. omega arith) (λ x. omega arith))
+  does_restart (Some (Check paths)) does is =
+      absurd (check_never paths does 10 is (λ x. omega arith) (λ x. omega arith) (λ x. omega arith) (λ x. omega arith) (λ x. omega arith))
+  does_restart (Some (Keygen words)) does is =
+      absurd (never-restart does.answer (own_is (line.status_of does.answer) 10 _ does.says is (λ x. omega arith) (λ x. omega arith)))
+  does_restart (Some (Sign words)) does is =
+      absurd (never-restart does.answer (own_is (line.status_of does.answer) 10 _ does.says is (λ x. omega arith) (λ x. omega arith)))
+  does_restart (Some (Init words)) does is =
+      absurd (init_never words 10 (λ f quiet. never-10 f) does is (λ x. omega arith) (λ x. omega arith) (λ x. omega arith))
+  does_restart (Some (Show disk)) does is =
+      absurd (show_never disk 10 (λ f quiet. never-10 f) does is (λ x. omega arith) (λ x. omega arith) (λ x. omega arith))
+  does_restart (Some (Audit disk)) does is =
+      absurd (audit_never disk 10 (λ f quiet. never-10 f) does is (λ x. omega arith) (λ x. omega arith) (λ x. omega arith) (λ x. omega arith))
+  does_restart (Some (Onboard words)) does is = (words, refl)
+
+  -- and without a source
+  does_sourceless : (command : Option Command) → Does seen command before after status → status ≡ 20
+      → (own : onboard.Words) × (command ≡ Some (Onboard own))
+  does_sourceless None does is = absurd (quiet_status Usage 2 refl does 20 is (λ x. omega arith) (λ x. omega arith) (λ x. omega arith))
+  does_sourceless (Some (Check paths)) does is =
+      absurd (check_never paths does 20 is (λ x. omega arith) (λ x. omega arith) (λ x. omega arith) (λ x. omega arith) (λ x. omega arith))
+  does_sourceless (Some (Keygen words)) does is =
+      absurd (never-sourceless does.answer (keygen-possible seen words (keygen_part before) (keygen_part after) does.answer does.ran)
+      (own_is (line.status_of does.answer) 20 _ does.says is (λ x. omega arith) (λ x. omega arith)))
+  does_sourceless (Some (Sign words)) does is =
+      absurd (never-sourceless does.answer (sign-possible seen words (sign_part before) (sign_part after) does.answer does.ran)
+      (own_is (line.status_of does.answer) 20 _ does.says is (λ x. omega arith) (λ x. omega arith)))
+  does_sourceless (Some (Init words)) does is =
+      absurd (init_never words 20 never-20 does is (λ x. omega arith) (λ x. omega arith) (λ x. omega arith))
+  does_sourceless (Some (Show disk)) does is =
+      absurd (show_never disk 20 never-20 does is (λ x. omega arith) (λ x. omega arith) (λ x. omega arith))
+  does_sourceless (Some (Audit disk)) does is =
+      absurd (audit_never disk 20 never-20 does is (λ x. omega arith) (λ x. omega arith) (λ x. omega arith) (λ x. omega arith))
+  does_sourceless (Some (Onboard words)) does is = (words, refl)
+
+  does_clock : (command : Option Command) → Does seen command before after status → status ≡ 31 → Rose before.clock.faults after.clock.faults
+  does_clock None does is = absurd (quiet_status Usage 2 refl does 31 is (λ x. omega arith) (λ x. omega arith) (λ x. omega arith))
   does_clock (Some (Check paths)) does is =
-      check_never paths does 31 is (λ x. omega arith) (λ x. omega arith) (λ x. omega arith) (λ x. omega arith) (λ x. omega arith)
+      absurd (check_never paths does 31 is (λ x. omega arith) (λ x. omega arith) (λ x. omega arith) (λ x. omega arith) (λ x. omega arith))
   does_clock (Some (Keygen words)) does is =
-      never-clock does.answer (keygen-possible seen words (keygen_part before) (keygen_part after) does.answer does.ran)
-      (own_is (line.status_of does.answer) 31 _ does.says is (λ x. omega arith) (λ x. omega arith))
+      absurd (never-clock does.answer (keygen-possible seen words (keygen_part before) (keygen_part after) does.answer does.ran)
+      (own_is (line.status_of does.answer) 31 _ does.says is (λ x. omega arith) (λ x. omega arith)))
   does_clock (Some (Sign words)) does is =
-      never-clock does.answer (sign-possible seen words (sign_part before) (sign_part after) does.answer does.ran)
-      (own_is (line.status_of does.answer) 31 _ does.says is (λ x. omega arith) (λ x. omega arith))
+      absurd (never-clock does.answer (sign-possible seen words (sign_part before) (sign_part after) does.answer does.ran)
+      (own_is (line.status_of does.answer) 31 _ does.says is (λ x. omega arith) (λ x. omega arith)))
+  does_clock (Some (Init words)) does is =
+      absurd (init_never words 31 never-31 does is (λ x. omega arith) (λ x. omega arith) (λ x. omega arith))
+  does_clock (Some (Show disk)) does is =
+      absurd (show_never disk 31 never-31 does is (λ x. omega arith) (λ x. omega arith) (λ x. omega arith))
+  does_clock (Some (Audit disk)) does is =
+      absurd (audit_never disk 31 never-31 does is (λ x. omega arith) (λ x. omega arith) (λ x. omega arith) (λ x. omega arith))
+  does_clock (Some (Onboard words)) does is =
+      onboard-clock seen words (onboard_part before) (onboard_part after) does.answer does.ran
+      (onboard_own words 31 does is (λ x. omega arith) (λ x. omega arith))
 
   does_listener : (command : Option Command) → Does seen command before after status → status ≡ 35 → ⊥
   does_listener None does is = quiet_status Usage 2 refl does 35 is (λ x. omega arith) (λ x. omega arith) (λ x. omega arith)
@@ -276,6 +445,13 @@ module _ {D : Type 0} (seen : D → Seen) (before after : Outside D) (status : �
   does_listener (Some (Sign words)) does is =
       never-listener does.answer (sign-possible seen words (sign_part before) (sign_part after) does.answer does.ran)
       (own_is (line.status_of does.answer) 35 _ does.says is (λ x. omega arith) (λ x. omega arith))
+  does_listener (Some (Init words)) does is = init_never words 35 never-35 does is (λ x. omega arith) (λ x. omega arith) (λ x. omega arith)
+  does_listener (Some (Show disk)) does is = show_never disk 35 never-35 does is (λ x. omega arith) (λ x. omega arith) (λ x. omega arith)
+  does_listener (Some (Audit disk)) does is =
+      audit_never disk 35 never-35 does is (λ x. omega arith) (λ x. omega arith) (λ x. omega arith) (λ x. omega arith)
+  does_listener (Some (Onboard words)) does is =
+      onboard-listener seen words (onboard_part before) (onboard_part after) does.answer does.ran
+      (onboard_own words 35 does is (λ x. omega arith) (λ x. omega arith))
 
   does_disk : (command : Option Command) → Does seen command before after status → status ≡ 30 → DiskRose seen before after
   does_disk None does is = absurd (quiet_status Usage 2 refl does 30 is (λ x. omega arith) (λ x. omega arith) (λ x. omega arith))
@@ -287,6 +463,18 @@ module _ {D : Type 0} (seen : D → Seen) (before after : Outside D) (status : �
   does_disk (Some (Sign words)) does is =
       sign-disk seen words (sign_part before) (sign_part after) does.answer does.ran
       (own_is (line.status_of does.answer) 30 _ does.says is (λ x. omega arith) (λ x. omega arith))
+  does_disk (Some (Init words)) does is =
+      let fails = init_fails words 30 does is (λ x. omega arith) (λ x. omega arith) (λ x. omega arith) in
+      init-disk seen words (init_part before) (init_part after) fails.f (init_ran words 30 does fails) fails.status_is
+  does_disk (Some (Show disk)) does is =
+      let fails = show_fails disk 30 does is (λ x. omega arith) (λ x. omega arith) (λ x. omega arith) in
+      looked-disk seen show.Shows disk before.disks after.disks fails.f (show_ran disk 30 does fails) fails.status_is
+  does_disk (Some (Audit disk)) does is =
+      let fails = audit_fails disk 30 does is (λ x. omega arith) (λ x. omega arith) (λ x. omega arith) (λ x. omega arith) in
+      looked-disk seen Audits disk before.disks after.disks fails.f (audit_ran disk 30 does fails) fails.status_is
+  does_disk (Some (Onboard words)) does is =
+      onboard-disk seen words (onboard_part before) (onboard_part after) does.answer does.ran
+      (onboard_own words 30 does is (λ x. omega arith) (λ x. omega arith))
 
   does_entropy : (command : Option Command) → Does seen command before after status → status ≡ 34 → Rose before.entropy.faults after.entropy.faults
   does_entropy None does is = absurd (quiet_status Usage 2 refl does 34 is (λ x. omega arith) (λ x. omega arith) (λ x. omega arith))
@@ -298,9 +486,18 @@ module _ {D : Type 0} (seen : D → Seen) (before after : Outside D) (status : �
   does_entropy (Some (Sign words)) does is =
       absurd (sign-entropy seen words (sign_part before) (sign_part after) does.answer does.ran
       (own_is (line.status_of does.answer) 34 _ does.says is (λ x. omega arith) (λ x. omega arith)))
+  does_entropy (Some (Init words)) does is =
+      absurd (init_never words 34 never-34 does is (λ x. omega arith) (λ x. omega arith) (λ x. omega arith))
+  does_entropy (Some (Show disk)) does is =
+      absurd (show_never disk 34 never-34 does is (λ x. omega arith) (λ x. omega arith) (λ x. omega arith))
+  does_entropy (Some (Audit disk)) does is =
+      absurd (audit_never disk 34 never-34 does is (λ x. omega arith) (λ x. omega arith) (λ x. omega arith) (λ x. omega arith))
+  does_entropy (Some (Onboard words)) does is =
+      absurd (onboard-entropy seen words (onboard_part before) (onboard_part after) does.answer does.ran
+      (onboard_own words 34 does is (λ x. omega arith) (λ x. omega arith)))
 
   does_file : (command : Option Command) → Does seen command before after status → status ≡ 33
-      → Rose before.folder.faults after.folder.faults ⊎ (LacksFile before ⊎ LacksDisk before)
+      → Rose before.folder.faults after.folder.faults ⊎ ((own : Command) × (command ≡ Some own) × (LacksFile own before ⊎ LacksDisk own before))
   does_file None does is = absurd (quiet_status Usage 2 refl does 33 is (λ x. omega arith) (λ x. omega arith) (λ x. omega arith))
   does_file (Some (Check paths)) does is =
       elim (check_ends paths does) [
@@ -311,17 +508,52 @@ module _ {D : Type 0} (seen : D → Seen) (before after : Outside D) (status : �
             | inl e ↦ absurd (omega arith)
             | inr h ↦ elim h [
               | inl e ↦ absurd (omega arith)
-              | inr e ↦ elim e.1 [ inl rose ↦ inl rose | inr absent ↦ inr (inl absent) ]
+              | inr e ↦ elim e.1 [ inl rose ↦ inl rose | inr absent ↦ inr (Check paths, refl, inl absent) ]
             ]
           ]
         ]
       ]
   does_file (Some (Keygen words)) does is =
       elim (keygen-file seen words (keygen_part before) (keygen_part after) does.answer does.ran
-      (own_is (line.status_of does.answer) 33 _ does.says is (λ x. omega arith) (λ x. omega arith))) [ inl rose ↦ inl rose | inr none ↦ inr (inr none) ]
+      (own_is (line.status_of does.answer) 33 _ does.says is (λ x. omega arith) (λ x. omega arith))) [
+        | inl rose ↦ inl rose
+        | inr none ↦ inr (Keygen words, refl, inr (words.key, refl, none))
+      ]
   does_file (Some (Sign words)) does is =
-      sign-file seen words (sign_part before) (sign_part after) does.answer does.ran
-      (own_is (line.status_of does.answer) 33 _ does.says is (λ x. omega arith) (λ x. omega arith))
+      elim (sign-file seen words (sign_part before) (sign_part after) does.answer does.ran
+      (own_is (line.status_of does.answer) 33 _ does.says is (λ x. omega arith) (λ x. omega arith))) [
+        | inl rose ↦ inl rose
+        | inr lacks ↦ elim lacks [
+          | inl absent ↦ inr (Sign words, refl, inl (words.file, refl, absent))
+          | inr none ↦ inr (Sign words, refl, inr (words.key, refl, none))
+        ]
+      ]
+  does_file (Some (Init words)) does is =
+      let fails = init_fails words 33 does is (λ x. omega arith) (λ x. omega arith) (λ x. omega arith) in
+      elim (init-file seen words (init_part before) (init_part after) fails.f (init_ran words 33 does fails) fails.status_is) [
+        | inl rose ↦ inl rose
+        | inr lacks ↦ elim lacks [
+          | inl absent ↦ inr (Init words, refl, inl (words.identity, refl, absent))
+          | inr none ↦ inr (Init words, refl, inr (words.disk, refl, none))
+        ]
+      ]
+  does_file (Some (Show disk)) does is =
+      let fails = show_fails disk 33 does is (λ x. omega arith) (λ x. omega arith) (λ x. omega arith) in
+      inr (Show disk, refl, inr (disk, refl, looked-file seen show.Shows disk before.disks after.disks fails.f (show_ran disk 33 does fails) fails.status_is))
+  does_file (Some (Audit disk)) does is =
+      let fails = audit_fails disk 33 does is (λ x. omega arith) (λ x. omega arith) (λ x. omega arith) (λ x. omega arith) in
+      inr (Audit disk, refl, inr (disk, refl, looked-file seen Audits disk before.disks after.disks fails.f (audit_ran disk 33 does fails) fails.status_is))
+  does_file (Some (Onboard words)) does is =
+      inr (
+        Onboard words,
+        refl,
+        inr (
+          words.disk,
+          refl,
+          onboard-file seen words (onboard_part before) (onboard_part after) does.answer does.ran
+              (onboard_own words 33 does is (λ x. omega arith) (λ x. omega arith)),
+        ),
+      )
 
   -- want of memory as the words were read has none of these statuses
   memory_not : EndsBy OutOfMemory before after status → (n : ℕ) → status ≡ n → 32 ≢ n → 70 ≢ n → ⊥
@@ -332,7 +564,18 @@ module _ {D : Type 0} (seen : D → Seen) (before after : Outside D) (status : �
     usage = usage_of words ran;
     not_valid = three_of words ran;
     disk = λ is. elim ran [ inl does ↦ does_disk (words_of words) does is | inr memory ↦ absurd (memory_not memory 30 is (λ x. omega arith) (λ x. omega arith)) ];
-    clock = λ is. absurd (elim ran [ inl does ↦ does_clock (words_of words) does is | inr memory ↦ memory_not memory 31 is (λ x. omega arith) (λ x. omega arith) ]);
+    restart = λ is. elim ran [
+      | inl does ↦ does_restart (words_of words) does is
+      | inr memory ↦ absurd (memory_not memory 10 is (λ x. omega arith) (λ x. omega arith))
+    ];
+    no_source = λ is. elim ran [
+      | inl does ↦ does_sourceless (words_of words) does is
+      | inr memory ↦ absurd (memory_not memory 20 is (λ x. omega arith) (λ x. omega arith))
+    ];
+    clock = λ is. elim ran [
+      | inl does ↦ does_clock (words_of words) does is
+      | inr memory ↦ absurd (memory_not memory 31 is (λ x. omega arith) (λ x. omega arith))
+    ];
     output = λ is. (run_output words ran).rose (is_32 status is);
     file = λ is. elim ran [ inl does ↦ does_file (words_of words) does is | inr memory ↦ absurd (memory_not memory 33 is (λ x. omega arith) (λ x. omega arith)) ];
     entropy = λ is. elim ran [ inl does ↦ does_entropy (words_of words) does is | inr memory ↦ absurd (memory_not memory 34 is (λ x. omega arith) (λ x. omega arith)) ];

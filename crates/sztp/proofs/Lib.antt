@@ -1,3 +1,5 @@
+mod Completing
+mod DeviceLaws
 mod Forms
 mod KeyLaws
 mod Laws

@@ -4,7 +4,8 @@ use Rattle.std.specs.List.{list_all}
 use Rattle.std.specs.Str.{is_utf8}
 use Rattle.clap.specs.Faults.{fault_of}
 use Rattle.clap.specs.Kinds.{Kinds}
-use Rattle.clap.specs.Simple.{App, matches_of, new_rule, new_shape}
+use Rattle.clap.specs.Lexer.{usize_max}
+use Rattle.clap.specs.Simple.{App, matches_of, new_rule, new_shape, with_rule}
 use Rattle.clap.specs.Walk.{Row, Rule}
 
 -- an argument with this name, which has to be there and takes one word
@@ -17,6 +18,17 @@ form_of name arguments = record {
   top = record (new_shape name) { rules = map argument arguments; no_binary_name = true; disable_help_flag = true };
   subs = [];
 }
+
+-- a last argument with this name, which takes one word or more
+abbrev pub last_argument : List ℕ → Rule
+last_argument name = record (new_rule name) {
+  required = true;
+  range = Some (record { start_inclusive = 1; end_inclusive = usize_max });
+}
+
+-- the same form with such an argument behind the others
+abbrev pub open_form_of : List ℕ → List (List ℕ) → List ℕ → App
+open_form_of name arguments last = with_rule (form_of name arguments) (last_argument last)
 
 -- what was matched, where no fault was found
 abbrev pub if_faultless : Kinds → List Row → Option (List Row)

@@ -1,4 +1,5 @@
 pub mod Causes
+pub mod Complete
 pub mod Forms
 pub mod Outside
 pub mod Ran

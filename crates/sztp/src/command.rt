@@ -8,10 +8,12 @@ ghost use Rattle.sztp.specs.View.{command_of};
 ghost use Rattle.sztp.specs.Words.{check_form, check_matched, keygen_form, keygen_matched, sign_form, sign_matched, words_of};
 ghost use Rattle.sztp.specs.Words.{is_disk_word};
 
+use crate::device_words::read_device_command;
 use crate::form::{form, taken, texts, word_of};
 use clap::ArgMatches;
 use std::alloc::Global;
 use sz_base::{OutOfMemory, Text};
+use sz_device::{InitWords, OnboardWords};
 use sz_keys::{CheckPaths, KeygenWords, SignWords};
 
 static CHECK_ARGUMENTS: [&str; 3] = ["PUBLIC", "FILE", "SIGNATURE"];
@@ -29,6 +31,14 @@ pub enum Command {
     Keygen(KeygenWords),
     /// Signs a file with a key on a disk.
     Sign(SignWords),
+    /// Makes a disk stand for a device with an identity.
+    Init(InitWords),
+    /// Boots the device of a disk once over its sources.
+    Onboard(OnboardWords),
+    /// Prints the device of the disk under this word.
+    Show(Text),
+    /// Audits the device of the disk under this word.
+    Audit(Text),
 }
 
 /// The command that the words are, or `None` where they are none. The first word is its name, and `clap` matches the
@@ -48,7 +58,7 @@ pub fn read_command(alloc: Global, words: &[Text]) -> Result<Option<Command>, Ou
     if name.as_slice() == b"sign".as_slice() {
         return read_sign(alloc, words);
     }
-    Ok(None)
+    read_device_command(alloc, name.as_slice(), words)
 }
 
 // The check that the words behind its name are.
@@ -168,8 +178,8 @@ fn sign_matched(alloc: Global, matches: &ArgMatches<'_>) -> Result<Option<Comman
     Ok(Some(Command::Sign(words)))
 }
 
-// The word names a disk: it begins with `@`, and isn't that alone.
-fn is_disk_word(word: &[u8]) -> bool
+/// The word names a disk: it begins with `@`, and isn't that alone.
+pub(crate) fn is_disk_word(word: &[u8]) -> bool
     ensures { result ≡ is_disk_word word.now }
 {
     word.len() >= 2 && word[0] == b'@'

@@ -6,8 +6,8 @@ ghost use Rattle.std.specs.Str.{is_utf8};
 ghost use Rattle.clap.specs.Faults.{is_simple_and_free};
 ghost use Rattle.clap.specs.Matches.{found_of};
 ghost use Rattle.clap.specs.Simple.{app_of};
-ghost use Rattle.clap.specs.Walk.{first_of, rows_of};
-ghost use Rattle.sztp.specs.Forms.{form_of, taken};
+ghost use Rattle.clap.specs.Walk.{all_of, first_of, rows_of};
+ghost use Rattle.sztp.specs.Forms.{form_of, open_form_of, taken};
 
 use clap::error::ErrorKind;
 use clap::{Arg, ArgMatches, Command};
@@ -31,6 +31,21 @@ pub fn form<'a>(
         form = form.arg(Arg::new(alloc, argument).required(true))?;
     }
     Ok(form)
+}
+
+/// The same with a last argument behind the others, which takes one word or more.
+pub fn open_form<'a>(
+    alloc: Global,
+    name: &'static str,
+    arguments: &'static [&'static str],
+    last: &'static str,
+) -> Result<Command<'a>, OutOfMemory>
+    ensures { IfOk result (λ form.
+        app_of form ≡ open_form_of name.now (map (λ argument. argument.now) arguments.now) last.now) }
+{
+    let form = form(alloc, name, arguments)?;
+    let last = Arg::new(alloc, last).required(true).num_args(1..);
+    Ok(form.arg(last)?)
 }
 
 /// The words as texts, or `None` where one isn't UTF-8.
@@ -71,4 +86,12 @@ pub fn word_of<'a>(matches: &ArgMatches<'a>, argument: &str) -> Option<&'a str>
     ensures { option_map (λ word. word.now) result ≡ first_of argument.now (rows_of (found_of matches.now)) }
 {
     matches.get_str(argument)
+}
+
+/// The words that were matched to an argument, if some were.
+pub fn words_of<'m, 'a>(matches: &'m ArgMatches<'a>, argument: &str) -> Option<&'m [&'a str]>
+    ensures { option_map (λ words. map (λ word. word.now) words.now) result
+        ≡ all_of argument.now (rows_of (found_of matches.now)) }
+{
+    matches.get_strs(argument)
 }

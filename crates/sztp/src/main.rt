@@ -5,6 +5,7 @@ ghost use Rattle.std.specs.Prelude.{◌≡◌};
 ghost use Rattle.std.specs.Process.{exit_status};
 
 mod command;
+mod device_words;
 mod disks;
 mod form;
 mod law;
@@ -60,7 +61,17 @@ fn null_device<R: Files>(files: &R) -> Option<R::File> {
 }
 
 #[cfg(test)]
+mod big_tests;
+#[cfg(test)]
+mod boot_tests;
+#[cfg(test)]
+mod device_tests;
+#[cfg(test)]
 mod key_tests;
+#[cfg(test)]
+mod maker;
+#[cfg(test)]
+mod site;
 #[cfg(test)]
 mod tests;
 #[cfg(test)]

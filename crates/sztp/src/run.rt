@@ -9,6 +9,9 @@ use std::alloc::Global;
 use std::thread::Threads;
 use sz_base::{OutOfMemory, Text};
 use sz_commands::{Failure, Status, say_failure};
+use sz_device::{
+    audit, init, onboard, say_audited, say_initialised, say_onboarded, say_shown, show,
+};
 use sz_disk::Disk;
 use sz_io::{Clock, Entropy, Folder, Listener, Net, Sink};
 use sz_keys::{check, keygen, say_checked, say_made, say_signed, sign};
@@ -58,6 +61,30 @@ pub fn run<
         Ok(Some(Command::Sign(words))) => {
             let answer = sign(rt, gate, alloc, &words, world.disks, world.folder);
             say_signed(answer, world.out)
+        }
+        Ok(Some(Command::Init(words))) => {
+            let answer = init(alloc, &words, world.disks, world.folder);
+            say_initialised(answer, world.out)
+        }
+        Ok(Some(Command::Onboard(words))) => {
+            let answer = onboard(
+                alloc,
+                &words,
+                world.disks,
+                world.folder,
+                world.net,
+                world.clock,
+                world.entropy,
+            );
+            say_onboarded(answer, world.out)
+        }
+        Ok(Some(Command::Show(disk))) => {
+            let answer = show(alloc, &disk, world.disks);
+            say_shown(answer, world.out)
+        }
+        Ok(Some(Command::Audit(disk))) => {
+            let answer = audit(alloc, &disk, world.disks);
+            say_audited(answer, world.out)
         }
         Ok(None) => say_failure(Failure::Usage, world.out),
         Err(OutOfMemory) => say_failure(Failure::OutOfMemory, world.out),

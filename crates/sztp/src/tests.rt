@@ -30,7 +30,7 @@ pub(crate) fn texts(alloc: Global, words: &[&[u8]]) -> Result<Texts, OutOfMemory
     Ok(texts)
 }
 
-fn call(alloc: Global, number: u64) -> Result<Calls, OutOfMemory> {
+pub(crate) fn call(alloc: Global, number: u64) -> Result<Calls, OutOfMemory> {
     let mut calls = Calls::create(alloc);
     calls.push(number)?;
     Ok(calls)

@@ -20,3 +20,27 @@ returns-in-Ok-Some-Sign-clause-ran g c = first_of (search rules, grind arith, gr
 
 pub returns-in-Ok-Some-Sign-clause-causes : goal.returns-in-Ok-Some-Sign-clause-causes
 returns-in-Ok-Some-Sign-clause-causes g c = causes _ _ _ _ c.args.words.now (returns-in-Ok-Some-Sign-clause-ran g c)
+
+pub returns-in-Ok-Some-Init-clause-ran : goal.returns-in-Ok-Some-Init-clause-ran
+returns-in-Ok-Some-Init-clause-ran g c = first_of (search rules, grind arith, grind (arith, common_steps))
+
+pub returns-in-Ok-Some-Init-clause-causes : goal.returns-in-Ok-Some-Init-clause-causes
+returns-in-Ok-Some-Init-clause-causes g c = causes _ _ _ _ c.args.words.now (returns-in-Ok-Some-Init-clause-ran g c)
+
+pub returns-in-Ok-Some-Onboard-clause-ran : goal.returns-in-Ok-Some-Onboard-clause-ran
+returns-in-Ok-Some-Onboard-clause-ran g c = first_of (search rules, grind arith, grind (arith, common_steps))
+
+pub returns-in-Ok-Some-Onboard-clause-causes : goal.returns-in-Ok-Some-Onboard-clause-causes
+returns-in-Ok-Some-Onboard-clause-causes g c = causes _ _ _ _ c.args.words.now (returns-in-Ok-Some-Onboard-clause-ran g c)
+
+pub returns-in-Ok-Some-Show-clause-ran : goal.returns-in-Ok-Some-Show-clause-ran
+returns-in-Ok-Some-Show-clause-ran g c = first_of (search rules, grind arith, grind (arith, common_steps))
+
+pub returns-in-Ok-Some-Show-clause-causes : goal.returns-in-Ok-Some-Show-clause-causes
+returns-in-Ok-Some-Show-clause-causes g c = causes _ _ _ _ c.args.words.now (returns-in-Ok-Some-Show-clause-ran g c)
+
+pub returns-in-Ok-Some-Audit-clause-ran : goal.returns-in-Ok-Some-Audit-clause-ran
+returns-in-Ok-Some-Audit-clause-ran g c = first_of (search rules, grind arith, grind (arith, common_steps))
+
+pub returns-in-Ok-Some-Audit-clause-causes : goal.returns-in-Ok-Some-Audit-clause-causes
+returns-in-Ok-Some-Audit-clause-causes g c = causes _ _ _ _ c.args.words.now (returns-in-Ok-Some-Audit-clause-ran g c)

@@ -1,0 +1,5 @@
+mod Lines
+mod Moment
+mod Naming
+mod Reading
+mod Refusing

@@ -1,0 +1,14 @@
+pub mod AuditRan
+pub mod Booted
+pub mod DeviceMade
+pub mod DoneLine
+pub mod IdentityFile
+pub mod InitRan
+pub mod Looked
+pub mod OnboardRan
+pub mod OnboardText
+pub mod ShowRan
+pub mod ShowText
+pub mod Sources
+pub mod StateFailure
+pub mod View
