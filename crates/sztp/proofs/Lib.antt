@@ -1,5 +1,6 @@
 mod Completing
 mod DeviceLaws
+mod Ending
 mod Forms
 mod KeyLaws
 mod Laws

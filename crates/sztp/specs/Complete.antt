@@ -1,11 +1,15 @@
--- When nothing disturbs an onboard, and how it then ends.
-use Rattle.std.specs.Prelude.{◌≡◌, ◌≢◌, ◌⊎◌, ℕ, ◌+◌, ◌^◌, List, None}
+-- When nothing disturbs an onboard or another command, and how it then ends.
+use Rattle.std.specs.Prelude.{◌≡◌, ◌≢◌, ◌⊎◌, ℕ, ◌+◌, ◌^◌, List, Some, None}
 use Rattle.sz_agent.specs.Boot.{looker_at}
 use Rattle.sz_agent.specs.Complete.{Completes}
 use Rattle.sz_agent.specs.Crash.{Changes, ReadsAs}
 use Rattle.sz_agent.specs.Quest.{quest_of}
 use Rattle.sz_agent.specs.declared.report.Report.{Report}
 use Rattle.sz_commands.specs.Disks.{ChangesDisk}
+use Rattle.sz_commands.specs.Ending.{number_of, output_fault}
+use Rattle.sz_commands.specs.declared.ending.Ending.{Ending}
+use Rattle.sz_commands.specs.declared.ending.Ending.TheVariants.{Done, NotValid, NotInitialised, Damaged, Exhausted, Refused}
+use Rattle.sz_commands.specs.declared.ending.Ending.TheVariants.{OutOfMemory}
 use Rattle.sz_device.specs.OnboardRan.{Words}
 use Rattle.sz_device.specs.Sources.{NamesSources}
 use Rattle.sz_disk.specs.Disk.{Seen}
@@ -16,7 +20,39 @@ use Rattle.sz_state.specs.Layout.{HasLayout}
 use Rattle.sz_step.specs.Boots.{Boot}
 use Rattle.sz_step.specs.Step.{Installs, Onboards}
 use Rattle.sz_walk.specs.Walk.{WhereBothTell}
+use Rattle.sztp.specs.Causes.{DiskRose, LacksDisk, LacksFile}
 use Rattle.sztp.specs.Outside.{Outside}
+use Rattle.sztp.specs.Words.{Command, IsOnboard, words_of}
+
+-- ---- any command
+
+-- the number of an ending, or that of an output that failed
+abbrev pub IsStatus : ℕ → Type 0
+IsStatus status = ((ending : Ending) × (status ≡ number_of ending)) ⊎ (status ≡ output_fault)
+
+-- The words are this command, which is no onboard. The files that it reads are there, and so are the disks that it uses,
+-- and no object's count rose.
+pub record IsCalm {D : Type 0} (seen : D → Seen) (line : List (List ℕ)) (command : Command) (before after : Outside D)
+    : Type 0 where
+  pub is : words_of line ≡ Some command
+  pub other : ¬ IsOnboard line
+  pub file : ¬ LacksFile command before
+  pub disk : ¬ LacksDisk command before
+  pub disks : ¬ DiskRose seen before after
+  pub clock : ¬ Rose before.clock.faults after.clock.faults
+  pub out : ¬ Rose before.out.faults after.out.faults
+  pub folder : ¬ Rose before.folder.faults after.folder.faults
+  pub entropy : ¬ Rose before.entropy.faults after.entropy.faults
+  pub listener : ¬ Rose before.listener.faults after.listener.faults
+
+-- it is done, or what was looked at was found wanting, or memory ran out: 0, 3, 40, 41, 50, 60, 70
+abbrev pub EndsByItsRow : ℕ → Type 0
+EndsByItsRow status =
+    (status ≡ number_of Done) ⊎ ((status ≡ number_of NotValid) ⊎ ((status ≡ number_of NotInitialised)
+    ⊎ ((status ≡ number_of Damaged) ⊎ ((status ≡ number_of Exhausted) ⊎ ((status ≡ number_of Refused)
+    ⊎ (status ≡ number_of OutOfMemory))))))
+
+-- ---- an onboard
 
 -- what the status says of the boot: the device was committed, or an image was put in place, or it is as it was
 abbrev pub EndsAs : ℕ → Boot → Type 0

@@ -10,10 +10,10 @@ ghost use Rattle.sz_keys.specs.CheckLine.{status_of, text_of};
 ghost use Rattle.sz_keys.specs.CheckRan.{IsSigned, Paths, answer_over};
 ghost use Rattle.sz_keys.specs.SignRan.{HasSpent, Words};
 ghost use Rattle.sz_record.specs.declared.device.Device.{Device};
-ghost use Rattle.sztp.specs.Complete.{Completed, IsUndisturbed};
+ghost use Rattle.sztp.specs.Complete.{Completed, EndsByItsRow, IsCalm, IsStatus, IsUndisturbed};
 ghost use Rattle.sztp.specs.Outside.{Outside};
 ghost use Rattle.sztp.specs.Ran.{RunOk, onboard_part, sign_part};
-ghost use Rattle.sztp.specs.Words.{Check, IsPlain, Onboard, Sign, check_of, words_of};
+ghost use Rattle.sztp.specs.Words.{Check, Command as SomeCommand, IsPlain, Onboard, Sign, check_of, words_of};
 
 use sz_device::an_undisturbed_onboard_is_complete;
 use sz_disk::Disk;
@@ -86,3 +86,12 @@ pub fn an_undisturbed_run_is_complete<D: Disk>()
 {
     an_undisturbed_onboard_is_complete::<D>();
 }
+
+/// A run ends with the number of an ending, or with that of an output that failed. A command other than an onboard, whose
+/// files and disks are there and over which no count rises, is done or ends by what it found, or by want of memory.
+pub fn statuses_are_those_of_endings<D: Disk>()
+    ensures each { (words : List (List ℕ)) (before after : Outside D) (status : ℕ)
+        → RunOk D.seen words before after status → IsStatus status }
+    ensures calm { (words : List (List ℕ)) (command : SomeCommand) (before after : Outside D) (status : ℕ)
+        → RunOk D.seen words before after status → IsCalm D.seen words command before after → EndsByItsRow status }
+{}
