@@ -20,6 +20,3 @@ mod widths;
 pub use booting::boot;
 pub use laws::{a_boot_is_complete, a_boot_is_safe, whatever_a_disk_stands_for_is_lawful};
 pub use report::{Outcome, Report};
-
-#[cfg(test)]
-mod tests;

@@ -7,6 +7,3 @@ mod visiting;
 
 pub use answer::Answer;
 pub use visiting::visit;
-
-#[cfg(test)]
-mod tests;

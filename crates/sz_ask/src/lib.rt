@@ -8,6 +8,3 @@ mod incoming;
 
 pub use asking::{MOST_REPLY_BYTES, ask};
 pub use fault::ServerFault;
-
-#[cfg(test)]
-mod tests;

@@ -13,6 +13,3 @@ mod laws;
 pub use auditing::audit;
 pub use found::{Audit, Found};
 pub use laws::lawful_devices_are_authorised;
-
-#[cfg(test)]
-mod tests;

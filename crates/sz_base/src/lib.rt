@@ -33,6 +33,3 @@ pub use moment::{Moment, Seconds};
 pub use numbers::number;
 pub use serial::Serial;
 pub use target::{Target, Targets};
-
-#[cfg(test)]
-mod tests;

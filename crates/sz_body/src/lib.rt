@@ -10,6 +10,3 @@ mod laws;
 pub use connection::asks_to_close;
 pub use framing::{Framing, FramingFault};
 pub use laws::fields_frame_once;
-
-#[cfg(test)]
-mod tests;

@@ -11,6 +11,3 @@ mod laws;
 
 pub use date_time::DateTime;
 pub use laws::{days_are_counted, seconds_and_times_are_one};
-
-#[cfg(test)]
-mod tests;

@@ -27,6 +27,3 @@ pub use laws::{stays_cleared, stays_filled, stays_ready};
 pub use reading::attach;
 pub use region::Region;
 pub use state::{Cleared, Filled, Ready, read};
-
-#[cfg(test)]
-mod tests;

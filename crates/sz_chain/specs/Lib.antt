@@ -1,4 +1,3 @@
 pub mod Signers
 pub mod SignedBy
 pub mod Places
-pub mod Printed

@@ -12,6 +12,3 @@ mod signers;
 pub use fault::{ChainFault, Why};
 pub use signed::signed_by;
 pub use sz_path::{Bag, BagFull, CrlBag};
-
-#[cfg(test)]
-mod tests;

@@ -13,6 +13,3 @@ pub use fault::ChunkFault;
 pub use fed::Fed;
 pub use laws::{chunked_bodies_read_once, refusals_are_one};
 pub use place::MOST_LINE_BYTES;
-
-#[cfg(test)]
-mod tests;

@@ -5,7 +5,6 @@ pub mod Message
 pub mod MessageFault
 pub mod Parts
 pub mod Places
-pub mod Printed
 pub mod Signature
 pub mod View
 pub mod Written

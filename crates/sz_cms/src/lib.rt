@@ -23,6 +23,3 @@ pub use kind::Kind;
 pub use laws::{fault_or_message, kinds_are_apart};
 pub use signer::{Covered, Identifier, SignedAttributes, Signer};
 pub use writing::{write_attributes, write_certs, write_plain, write_signed};
-
-#[cfg(test)]
-mod tests;

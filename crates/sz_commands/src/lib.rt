@@ -9,5 +9,5 @@ mod print;
 
 pub use ending::{Ending, Status};
 pub use failure::Failure;
-pub use input::{input_size, read_front, read_input};
+pub use input::{input_size, read_front};
 pub use print::{refusal_status, say, say_failure, say_number, say_parts, say_text, write_parts};

@@ -16,6 +16,3 @@ pub use laws::{addresses_are_hosts, faultless_values_are_information, hashes_are
 pub use onboarding::{BootImage, Handling, LONGEST_NAME, Onboarding};
 pub use redirect::DEFAULT_PORT;
 pub use writing::{write_onboarding, write_redirect};
-
-#[cfg(test)]
-mod tests;

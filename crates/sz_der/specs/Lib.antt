@@ -4,6 +4,5 @@ pub mod Fault
 pub mod Integer
 pub mod Items
 pub mod Nested
-pub mod Printed
 pub mod Reader
 pub mod Time

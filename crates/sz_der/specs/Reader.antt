@@ -1,5 +1,5 @@
 -- What a reader of items takes from the bytes that are left to it, which end before a place that stays.
-use Rattle.std.specs.Prelude.{◌≡◌, ◌≢◌, ◌-◌, ◌<◌, ℕ, List, length, slice_index, Some}
+use Rattle.std.specs.Prelude.{◌≡◌, ◌-◌, ℕ, List, length, Some}
 use Rattle.sz_der.specs.Fault.{fault_of}
 use Rattle.sz_der.specs.Items.{BeginsWith}
 use Rattle.sz_der.specs.declared.fault.DerFault.{DerFault}
@@ -17,7 +17,3 @@ pub record Takes (end : ℕ) (old new : List ℕ) (tag : ℕ) (content whole : L
 pub record IsFrontFault (end : ℕ) (left : List ℕ) (fault : DerFault) : Type 0 where
   pub kind : fault_of left ≡ Some fault.kind
   pub place : fault.place ≡ place_of end left
-
--- what is left does not begin with this tag
-abbrev pub BeginsOtherwise : ℕ → List ℕ → Type 0
-BeginsOtherwise tag left = 0 < length left → slice_index left 0 ≢ tag

@@ -29,6 +29,3 @@ pub use reader::DerReader;
 pub use times::time;
 pub use typed::{bit_string, boolean, content_of, named_bits, octet_string, oid};
 pub use writer::DerWriter;
-
-#[cfg(test)]
-mod tests;

@@ -1,8 +1,8 @@
 //! A reader of items one after another, as of those that an item holds.
 
-ghost use Rattle.std.specs.Prelude.{◌≡◌, ◌≢◌, ◌↔◌, ℕ, List, [], length, slice_index, IsTrue, IfOk, IfErr, OnErr, IfSome, IfNone, IsOkAnd};
+ghost use Rattle.std.specs.Prelude.{◌≡◌, ◌↔◌, ℕ, List, [], length, IsTrue, IfOk, IfErr, OnErr, IsOkAnd};
 ghost use Rattle.sz_der.specs.Items.{BeginsWith};
-ghost use Rattle.sz_der.specs.Reader.{place_of, Takes, IsFrontFault, BeginsOtherwise};
+ghost use Rattle.sz_der.specs.Reader.{place_of, Takes, IsFrontFault};
 
 use crate::{DerFault, Item, next};
 
@@ -79,44 +79,5 @@ impl<'a> DerReader<'a> {
                 place: self.place(),
             }),
         }
-    }
-
-    /// Takes the next item where one is left. A fault leaves the reader as it was.
-    pub fn next_item(&mut self) -> Result<Option<Item<'a>>, DerFault>
-        ensures some { IfOk result (λ found. IfSome found (λ item.
-            Takes self.old.end self.old.left.now self.new.left.now
-            item.tag item.content.now item.whole.now item.after)) }
-        ensures none { IfOk result (λ found. IfNone found
-            ((self.old.left.now ≡ []) × (self.new.left.now ≡ self.old.left.now))) }
-        ensures fault { IfErr result (λ fault. IsFrontFault self.old.end self.old.left.now fault
-            × (self.old.left.now ≢ [])) }
-        ensures err { OnErr result (self.new.left.now ≡ self.old.left.now) }
-        ensures end { self.new.end ≡ self.old.end }
-    {
-        if self.left.is_empty() {
-            return Ok(None);
-        }
-        let item = self.take_item()?;
-        Ok(Some(item))
-    }
-
-    /// Takes the next item where it has this tag. A fault leaves the reader as it was.
-    pub fn next_tagged(&mut self, tag: u8) -> Result<Option<Item<'a>>, DerFault>
-        ensures some { IfOk result (λ found. IfSome found (λ item. (item.tag ≡ tag)
-            × Takes self.old.end self.old.left.now self.new.left.now
-            item.tag item.content.now item.whole.now item.after)) }
-        ensures none { IfOk result (λ found. IfNone found
-            (BeginsOtherwise tag self.old.left.now × (self.new.left.now ≡ self.old.left.now))) }
-        ensures fault { IfErr result (λ fault. IsFrontFault self.old.end self.old.left.now fault
-            × (slice_index self.old.left.now 0 ≡ tag) × (self.old.left.now ≢ [])) }
-        ensures err { OnErr result (self.new.left.now ≡ self.old.left.now) }
-        ensures end { self.new.end ≡ self.old.end }
-    {
-        match self.left.first() {
-            Some(first) if *first == tag => {}
-            _ => return Ok(None),
-        }
-        let item = self.take_item()?;
-        Ok(Some(item))
     }
 }

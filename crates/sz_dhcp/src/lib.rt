@@ -17,6 +17,3 @@ pub use fault::{DhcpFault, DhcpKind};
 pub use laws::{messages4_have_one_reading, messages6_have_one_reading};
 pub use message4::v4;
 pub use message6::v6;
-
-#[cfg(test)]
-mod tests;

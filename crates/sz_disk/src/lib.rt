@@ -19,6 +19,3 @@ pub use disk::Disk;
 pub use disks::Disks;
 pub use memory::MemoryDisk;
 pub use room::Room;
-
-#[cfg(test)]
-mod tests;

@@ -44,6 +44,3 @@ pub trait Room {
     /// Two stretches, one after the other, are one.
     ghost led_on: { (first middle last : Self) → led first middle → led middle last → led first last };
 }
-
-#[cfg(test)]
-mod tests;

@@ -15,6 +15,3 @@ mod service;
 pub use answer::targets;
 pub use fault::{DnsFault, DnsKind};
 pub use laws::answers_have_one_reading;
-
-#[cfg(test)]
-mod tests;

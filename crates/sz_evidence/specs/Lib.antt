@@ -2,5 +2,4 @@ pub mod Reason
 pub mod Authorised
 pub mod Judgement
 pub mod View
-pub mod Running
 pub mod IdentityFile

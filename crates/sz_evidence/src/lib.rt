@@ -1,8 +1,7 @@
 //! Whether evidence authorises a device to be bootstrapped (RFC 8572 section 5): the judgement on conveyed information,
 //! owner certificate and ownership voucher, as one answer that a table of rules gives.
 //!
-//! Beside it stand the reasons for which a visit of a source comes to nothing, the file of an identity, and whether what
-//! runs is what onboarding information asks for.
+//! Beside it stand the reasons for which a visit of a source comes to nothing, and the file of an identity.
 #![tactic(auto)]
 
 mod identity;
@@ -10,7 +9,6 @@ mod judgement;
 mod laws;
 mod messages;
 mod reason;
-mod running;
 mod strings;
 mod vouched;
 
@@ -22,7 +20,3 @@ pub use laws::{
     unsigned_is_not_authorised,
 };
 pub use reason::{Artifact, Reason, What};
-pub use running::satisfied;
-
-#[cfg(test)]
-mod tests;

@@ -1,6 +1,5 @@
 //! Why a visit of a source comes to nothing.
 
-use std::fmt;
 use sz_base::ImageFaults;
 use sz_chain::ChainFault;
 use sz_json::Name;
@@ -154,17 +153,5 @@ impl Reason {
             Reason::Depth => (24, "Depth"),
             Reason::BudgetSpent => (25, "BudgetSpent"),
         }
-    }
-}
-
-impl fmt::Display for Reason {
-    ghost use Rattle.std.specs.Prelude.{Some};
-    ghost use Rattle.sz_evidence.specs.Reason.{reason_text};
-
-    ghost output = { λ reason. Some (reason_text reason) };
-
-    fn fmt<W: fmt::Write>(&self, f: &mut fmt::Formatter<W>) -> fmt::Result {
-        let (number, name) = self.row();
-        write!(f, "{number} {name}")
     }
 }

@@ -5,6 +5,3 @@
 mod opening;
 
 pub use opening::open;
-
-#[cfg(test)]
-mod tests;

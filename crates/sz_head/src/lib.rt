@@ -19,6 +19,3 @@ pub use kind::Kind;
 pub use place::MOST_FIELDS;
 pub use progress::{NoHead, Progress};
 pub use reading::{HeadReading, MOST_BYTES};
-
-#[cfg(test)]
-mod tests;

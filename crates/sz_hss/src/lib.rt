@@ -10,8 +10,6 @@ mod level;
 mod levels_text;
 mod reading;
 mod stored;
-#[cfg(test)]
-mod tests;
 mod trees;
 
 pub use key::Key;

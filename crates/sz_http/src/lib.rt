@@ -19,6 +19,3 @@ pub use reading::Reading;
 pub use side::Side;
 pub use sz_body::asks_to_close;
 pub use sz_head::{Fields, Head};
-
-#[cfg(test)]
-mod tests;

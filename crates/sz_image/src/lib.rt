@@ -11,6 +11,3 @@ mod request;
 
 pub use choice::{NoImage, fetch_first};
 pub use download::fetch;
-
-#[cfg(test)]
-mod tests;

@@ -39,6 +39,3 @@ pub use script_net::ScriptNet;
 pub use set_clock::{SetClock, Times};
 pub use set_entropy::SetEntropy;
 pub use sink::Sink;
-
-#[cfg(test)]
-mod tests;

@@ -16,6 +16,3 @@ pub use cert::{CertSpec, write_cert, write_tbs};
 pub use laws::written_once;
 pub use list::{CrlSpec, write_crl, write_crl_tbs};
 pub use times::is_writable;
-
-#[cfg(test)]
-mod tests;

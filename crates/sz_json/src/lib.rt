@@ -22,6 +22,3 @@ pub use name::Name;
 pub use serde_json::Value;
 pub use times::{date_time, required_time, time};
 pub use writing::{Object, single};
-
-#[cfg(test)]
-mod tests;

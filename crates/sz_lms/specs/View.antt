@@ -1,5 +1,5 @@
 -- What the crate's own types stand for in the definitions.
-use Rattle.std.specs.Prelude.{ℕ, List, Option, Some, None, Result, Ok, Err, codes}
+use Rattle.std.specs.Prelude.{ℕ, Option, Some, None, Result, Ok, Err}
 use Rattle.sz_lms.specs.Ots as spec
 use Rattle.sz_lms.specs.Rules as rules
 use Rattle.sz_lms.specs.declared.fault.HssFault.{HssFault}
@@ -41,11 +41,3 @@ rule_of Root = rules.Root
 abbrev pub broken_rule : {T : Type 0} → Result T HssFault → Option rules.Rule
 broken_rule (Ok _) = None
 broken_rule (Err fault) = Some (rule_of fault)
-
--- the word that a fault shows
-abbrev pub word_of : HssFault → List ℕ
-word_of Length = codes "length"
-word_of Levels = codes "levels"
-word_of Scheme = codes "scheme"
-word_of LeafNumber = codes "leaf"
-word_of Root = codes "root"

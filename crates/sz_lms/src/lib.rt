@@ -18,8 +18,6 @@ pub mod law;
 mod level;
 mod ots;
 mod path;
-#[cfg(test)]
-mod tests;
 mod types;
 mod verify;
 

@@ -9,8 +9,6 @@ mod nodes;
 mod public;
 mod secrets;
 mod signing;
-#[cfg(test)]
-mod tests;
 mod trees;
 
 pub use gate::{Gate, OpenGate, Part};

@@ -13,6 +13,3 @@ mod trying;
 pub use laws::authorised_names_are_short;
 pub use trial::Trial;
 pub use trying::try_offer;
-
-#[cfg(test)]
-mod tests;

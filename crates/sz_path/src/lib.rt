@@ -14,8 +14,6 @@ mod place;
 mod search;
 mod set;
 mod test_of;
-#[cfg(test)]
-mod tests;
 pub mod usage;
 mod verify;
 mod way;

@@ -26,6 +26,3 @@ pub use listener::RealListener;
 pub use net::RealNet;
 pub use positioned::PositionedFile;
 pub use sink::RealSink;
-
-#[cfg(test)]
-mod tests;

@@ -1,10 +1,8 @@
 -- What a reader that refuses a payload answers.
-use Rattle.std.specs.Prelude.{◌≡◌, ℕ, ◌≤◌, List, ◌++◌, codes, length, slice_index, Some}
-use Rattle.std.specs.Fmt.{decimal}
-use Rattle.sz_base.specs.Fault.{memory_words}
+use Rattle.std.specs.Prelude.{◌≡◌, ℕ, ◌≤◌, List, length, slice_index, Some}
 use Rattle.sz_record.specs.Stored.{first_wrong}
 use Rattle.sz_record.specs.declared.fault.RecordFault.{RecordFault}
-use Rattle.sz_record.specs.declared.fault.RecordFault.TheVariants.{BadRecord, OutOfMemory}
+use Rattle.sz_record.specs.declared.fault.RecordFault.TheVariants.{BadRecord}
 
 -- the payload's first wrong byte stands at this place, and this is it, or 0 where the place is the end
 pub record IsBadAt (space : ℕ) (payload : List ℕ) (place value : ℕ) : Type 0 where
@@ -16,9 +14,3 @@ pub record IsBadAt (space : ℕ) (payload : List ℕ) (place value : ℕ) : Type
 abbrev pub IsFault : ℕ → List ℕ → RecordFault → Type 0
 IsFault space payload fault =
     (place value : ℕ) → fault ≡ BadRecord place value → IsBadAt space payload place value
-
--- what a fault prints
-abbrev pub fault_words : RecordFault → List ℕ
-fault_words (BadRecord place value) =
-    codes "byte " ++ (decimal value ++ (codes " is wrong, at " ++ decimal place))
-fault_words OutOfMemory = memory_words

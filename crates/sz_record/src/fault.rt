@@ -1,10 +1,8 @@
 //! Why a payload is refused.
 
-ghost use Rattle.std.specs.Prelude.{◌≡◌, Some};
+ghost use Rattle.std.specs.Prelude.{◌≡◌};
 ghost use Rattle.sz_record.specs.declared.fault.RecordFault.TheVariants.{OutOfMemory as record_memory};
 
-use std::error::Error;
-use std::fmt;
 use sz_base::OutOfMemory;
 
 /// Why a payload is refused.
@@ -15,23 +13,6 @@ pub enum RecordFault {
     /// Memory ran out.
     OutOfMemory,
 }
-
-impl fmt::Display for RecordFault {
-    ghost use Rattle.sz_record.specs.Fault.{fault_words};
-
-    ghost output = { λ fault. Some (fault_words fault) };
-
-    fn fmt<W: fmt::Write>(&self, f: &mut fmt::Formatter<W>) -> fmt::Result {
-        match self {
-            RecordFault::BadRecord { place, value } => {
-                write!(f, "byte {value} is wrong, at {place}")
-            }
-            RecordFault::OutOfMemory => write!(f, "{OutOfMemory}"),
-        }
-    }
-}
-
-impl Error for RecordFault {}
 
 impl From<OutOfMemory> for RecordFault {
     ghost from_gives = { λ _ e. e ≡ record_memory };

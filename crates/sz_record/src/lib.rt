@@ -24,6 +24,3 @@ pub use sizes::{installed_size, onboarded_size, size};
 pub use storable::is_storable;
 pub use widths::{device_widths, moment_widths};
 pub use writing::write;
-
-#[cfg(test)]
-mod tests;

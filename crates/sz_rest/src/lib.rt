@@ -16,6 +16,3 @@ pub use fault::{AskFault, MOST_ARTIFACT_BYTES, RestFault};
 pub use laws::{faultless_values_are_replies, replies_read_back, requests_have_one_answer};
 pub use reply::{write_refusal, write_reply};
 pub use request::write_request;
-
-#[cfg(test)]
-mod tests;

@@ -9,8 +9,6 @@ mod opening;
 mod reserving;
 mod signer;
 mod signing;
-#[cfg(test)]
-mod tests;
 
 pub use fault::SignFault;
 pub use laws::leaf_numbers_sign_once;

@@ -9,6 +9,3 @@ mod source;
 pub use item::Item;
 pub use laws::sources_read_back;
 pub use source::{MOST_SOURCES, Source, Sources};
-
-#[cfg(test)]
-mod tests;

@@ -1,8 +1,5 @@
--- Which of a call's answers blame the disk, what the faults of the layers below become, and how faults are shown.
-use Rattle.std.specs.Prelude.{ℕ, List, ◌++◌, codes, Bool, true, false, Result, Ok, Err}
-use Rattle.std.specs.Fmt.{decimal}
-use Rattle.sz_base.specs.Fault.{failed_words, memory_words}
-use Rattle.sz_cell.specs.Fault.{attach_text}
+-- Which of a call's answers blame the disk, and what the faults of the layers below become.
+use Rattle.std.specs.Prelude.{Bool, true, false, Result, Ok, Err}
 use Rattle.sz_cell.specs.declared.fault.AttachFault.{AttachFault}
 use Rattle.sz_cell.specs.declared.fault.AttachFault.TheVariants.{Failed as attach_fault, NotFormatted, Damaged as damaged_cell}
 use Rattle.sz_cell.specs.declared.fault.ClearFault.{ClearFault}
@@ -38,15 +35,3 @@ of_format (cell_in_use slot) = InUse slot
 abbrev pub of_clear : ClearFault → StateFault
 of_clear clear_fault = Failed
 of_clear (exhausted_cell sequence) = Exhausted sequence
-
--- what a fault prints
-abbrev pub fault_words : StateFault → List ℕ
-fault_words Failed = failed_words
-fault_words NotInitialised = codes "not initialised"
-fault_words (Damaged slot sequence length) = attach_text (damaged_cell slot sequence length)
-fault_words (BadRecord place value) =
-    codes "byte " ++ (decimal value ++ (codes " is wrong, at " ++ decimal place))
-fault_words (InUse slot) = codes "slot " ++ decimal slot ++ codes " is in use"
-fault_words (Exhausted sequence) = codes "sequence " ++ decimal sequence ++ codes " is the last"
-fault_words OutOfMemory = memory_words
-fault_words (TooLarge size) = codes "a record of " ++ decimal size ++ codes " bytes"

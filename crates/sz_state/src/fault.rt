@@ -1,11 +1,9 @@
 //! Why a call on a device's disk is refused.
 
-ghost use Rattle.std.specs.Prelude.{◌≡◌, Some};
+ghost use Rattle.std.specs.Prelude.{◌≡◌};
 ghost use Rattle.sz_state.specs.Fault.{of_attach, of_clear, of_format};
 ghost use Rattle.sz_state.specs.declared.fault.StateFault.TheVariants.{Failed as state_fault, OutOfMemory as state_memory};
 
-use std::error::Error;
-use std::fmt;
 use sz_base::{Failed, OutOfMemory};
 use sz_cell::{AttachFault, ClearFault, FormatFault};
 
@@ -42,40 +40,6 @@ pub enum StateFault {
         size: u64,
     },
 }
-
-impl fmt::Display for StateFault {
-    ghost use Rattle.sz_state.specs.Fault.{fault_words};
-
-    ghost output = { λ fault. Some (fault_words fault) };
-
-    fn fmt<W: fmt::Write>(&self, f: &mut fmt::Formatter<W>) -> fmt::Result {
-        match self {
-            StateFault::Failed => write!(f, "{Failed}"),
-            StateFault::NotInitialised => f.write_str("not initialised"),
-            StateFault::Damaged {
-                slot,
-                sequence,
-                length,
-            } => {
-                let fault = AttachFault::Damaged {
-                    slot: *slot,
-                    sequence: *sequence,
-                    length: *length,
-                };
-                write!(f, "{fault}")
-            }
-            StateFault::BadRecord { place, value } => {
-                write!(f, "byte {value} is wrong, at {place}")
-            }
-            StateFault::InUse { slot } => write!(f, "slot {slot} is in use"),
-            StateFault::Exhausted { sequence } => write!(f, "sequence {sequence} is the last"),
-            StateFault::OutOfMemory => write!(f, "{OutOfMemory}"),
-            StateFault::TooLarge { size } => write!(f, "a record of {size} bytes"),
-        }
-    }
-}
-
-impl Error for StateFault {}
 
 impl From<Failed> for StateFault {
     ghost from_gives = { λ _ e. e ≡ state_fault };

@@ -32,6 +32,3 @@ pub use satisfied::is_satisfied;
 pub use sizes::layout;
 pub use spare::staging;
 pub use staged::Staged;
-
-#[cfg(test)]
-mod tests;

@@ -7,6 +7,3 @@ mod uri;
 
 pub use laws::uris_have_one_reading;
 pub use uri::Uri;
-
-#[cfg(test)]
-mod tests;

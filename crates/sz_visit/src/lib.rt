@@ -9,6 +9,3 @@ mod storage;
 pub use fault::FileFault;
 pub use files::{MOST_MESSAGE_BYTES, read_message};
 pub use storage::{MOST_ARTIFACT_BYTES, read_storage};
-
-#[cfg(test)]
-mod tests;

@@ -12,6 +12,3 @@ pub use judgement::{VoucherFault, judge};
 pub use laws::{faultless_values_are_vouchers, judged_vouchers_fit};
 pub use voucher::{Assertion, LONGEST_NONCE, SHORTEST_NONCE, Voucher};
 pub use writing::write_voucher;
-
-#[cfg(test)]
-mod tests;

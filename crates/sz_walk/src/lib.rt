@@ -15,6 +15,3 @@ pub use step::Step;
 pub use trial::Tries;
 pub use visit::{Note, Visit, Visits};
 pub use walk::Walk;
-
-#[cfg(test)]
-mod tests;

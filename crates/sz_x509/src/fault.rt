@@ -1,8 +1,5 @@
 //! Why a certificate or a revocation list was not read.
 
-use std::error::Error;
-use std::fmt;
-
 /// Why a certificate or a revocation list was not read.
 #[derive(Clone, Copy, Debug, PartialEq, Eq)]
 pub enum CertKind {
@@ -20,19 +17,6 @@ pub enum CertKind {
     Extension,
 }
 
-impl fmt::Display for CertKind {
-    fn fmt<W: fmt::Write>(&self, f: &mut fmt::Formatter<W>) -> fmt::Result {
-        f.write_str(match self {
-            CertKind::Der => "the item is not the part that stands there",
-            CertKind::Version => "the version is another one",
-            CertKind::Algorithm => "the algorithm is not HSS/LMS",
-            CertKind::Key => "the key is no HSS public key",
-            CertKind::Time => "the time is not in its form",
-            CertKind::Extension => "the extension is not taken",
-        })
-    }
-}
-
 /// A fault, and where it is: the place of the item's tag, counted from 0.
 #[derive(Clone, Copy, Debug, PartialEq, Eq)]
 pub struct CertFault {
@@ -41,13 +25,3 @@ pub struct CertFault {
     /// The place of the item's tag.
     pub place: usize,
 }
-
-impl fmt::Display for CertFault {
-    fn fmt<W: fmt::Write>(&self, f: &mut fmt::Formatter<W>) -> fmt::Result {
-        let kind = self.kind;
-        let place = self.place;
-        write!(f, "{kind}, at {place}")
-    }
-}
-
-impl Error for CertFault {}

@@ -22,6 +22,3 @@ pub use cert::Cert;
 pub use crl::Crl;
 pub use fault::{CertFault, CertKind};
 pub use laws::{fault_or_certificate, fault_or_list};
-
-#[cfg(test)]
-mod tests;

@@ -4,25 +4,18 @@
 ghost use Rattle.std.specs.Prelude.{◌≡◌};
 ghost use Rattle.std.specs.Process.{exit_status};
 
-mod command;
-mod device_words;
 mod disks;
-mod form;
-mod law;
-mod run;
 mod words;
-mod world;
 
 use crate::disks::disks_named;
-use crate::run::run;
 use crate::words::words;
-use crate::world::World;
 use std::fs::File;
 use std::io;
 use std::process::ExitCode;
 use std::rt::Files;
 use sz_commands::{Failure, Status, say_failure};
 use sz_lms_tree::OpenGate;
+use sz_program::{World, run};
 use sz_real::{RealClock, RealEntropy, RealFolder, RealListener, RealNet, RealSink};
 
 fn main(rt: HostRuntime) -> ExitCode {
@@ -59,20 +52,3 @@ fn ended(status: Status) -> ExitCode
 fn null_device<R: Files>(files: &R) -> Option<R::File> {
     File::open(files, "/dev/null").ok()
 }
-
-#[cfg(test)]
-mod big_tests;
-#[cfg(test)]
-mod boot_tests;
-#[cfg(test)]
-mod device_tests;
-#[cfg(test)]
-mod key_tests;
-#[cfg(test)]
-mod maker;
-#[cfg(test)]
-mod site;
-#[cfg(test)]
-mod tests;
-#[cfg(test)]
-mod vector;

@@ -1,6 +1,0 @@
-use Rattle.std.proofs.Common.{◌≡◌, map, take}
-use Rattle.sztp.proofs.device_words.copies.Given as goal
-
--- the words so far are copied
-abbrev pub invariant-loop-word : goal.invariant-loop-word
-invariant-loop-word l = l.copies ≡ map (λ word. word.now) (take l.word-index l.words)

@@ -1,5 +1,0 @@
-use Rattle.sztp.proofs.PlainWords.{a_fourth_is_none, behind_dashes, plain}
-use Rattle.sztp.proofs.law.three_words_are_a_check.Goals as goal
-
-pub returns : goal.returns
-returns c = record { plain = plain; behind_dashes = behind_dashes; fourth = a_fourth_is_none }
