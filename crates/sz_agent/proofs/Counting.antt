@@ -4,10 +4,9 @@ use Rattle.std.proofs.Math.Seq.{drop-append_seam}
 use Rattle.std.specs.Prelude.{count_by}
 use Rattle.std.specs.List.{list_any}
 use Rattle.std.proofs.lemmas.List.Sums.{sum_by-cons}
-use Rattle.sz_spec.specs.Cause.{HasCause, Rose}
+use Rattle.sz_spec.specs.Cause.{HasCause, Rose, RoseBy}
 use Rattle.sz_evidence.specs.declared.reason.Reason.{Reason}
 use Rattle.sz_evidence.specs.declared.reason.Reason.TheVariants as reason
-use Rattle.sz_image.specs.Downloads.{RoseBy}
 use Rattle.sz_source.specs.declared.item.Item.{Item}
 use Rattle.sz_source.specs.declared.item.Item.TheVariants as item
 use Rattle.sz_answer.specs.Visit.{is_lost, is_lost_file, is_lost_server}

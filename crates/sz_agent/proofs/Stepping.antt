@@ -5,7 +5,7 @@ use Rattle.std.proofs.lemmas.Bool.{false≢true}
 use Rattle.sz_spec.specs.Cause.{HasCause}
 use Rattle.sz_base.specs.declared.evidence.Evidence.{Evidence}
 use Rattle.sz_base.specs.declared.moment.Moment.{Moment}
-use Rattle.sz_conveyed.specs.declared.onboarding.BootImage.{BootImage}
+use Rattle.sz_artifacts.specs.declared.conveyed.onboarding.BootImage.{BootImage}
 use Rattle.sz_disk.specs.Disk.{IsLawful, IsSynced, LeavesOnly, Seen}
 use Rattle.sz_disk.proofs.Moments.{leaves-now, leaves-weaker, quiet-none, still-leaves}
 use Rattle.sz_io.specs.Folder.{FileMap}

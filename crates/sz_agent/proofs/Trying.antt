@@ -4,7 +4,7 @@ use Rattle.std.proofs.Common.{ap, arith, inl, inr}
 use Rattle.sz_spec.specs.Told.{WhereTold}
 use Rattle.sz_base.specs.declared.evidence.Evidence.{Evidence}
 use Rattle.sz_base.specs.declared.image.ImageFault.{ImageFault}
-use Rattle.sz_conveyed.specs.declared.onboarding.Onboarding.{Onboarding}
+use Rattle.sz_artifacts.specs.declared.conveyed.onboarding.Onboarding.{Onboarding}
 use Rattle.sz_evidence.specs.declared.reason.Reason.{Reason}
 use Rattle.sz_evidence.specs.declared.reason.Reason.TheVariants as reason
 use Rattle.sz_image.specs.Downloads.{CountsLost, Stops, StopsOver, TriesOver}

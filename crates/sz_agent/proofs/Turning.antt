@@ -3,7 +3,7 @@ use Rattle.std.specs.Prelude.{◌≡◌, ◌⊎◌, ℕ, ◌*◌, ◌≤◌, Lis
 use Rattle.std.proofs.Common.{refl, sym, ap, subst, ◌∙◌, inl, inr, append-nil, length-append, arith}
 use Rattle.sz_spec.specs.Told.{WhereTold}
 use Rattle.sz_base.specs.declared.evidence.Evidence.{Evidence}
-use Rattle.sz_conveyed.specs.declared.onboarding.Onboarding.{Onboarding}
+use Rattle.sz_artifacts.specs.declared.conveyed.onboarding.Onboarding.{Onboarding}
 use Rattle.sz_evidence.specs.declared.reason.Reason.{Reason}
 use Rattle.sz_io.specs.Added.{Adds}
 use Rattle.sz_io.specs.Net.{Traffic}

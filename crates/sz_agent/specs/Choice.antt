@@ -2,7 +2,7 @@
 -- choice becomes on the disk.
 use Rattle.std.specs.Prelude.{◌≡◌, ◌≢◌, ℕ, ◌+◌, ◌*◌, ◌^◌, ◌≤◌, ◌<◌, Bool, true, false, List, length, Option, Some, None, IfSome, Result, Ok, Err}
 use Rattle.sz_base.specs.declared.moment.Moment.{Moment}
-use Rattle.sz_conveyed.specs.declared.onboarding.Onboarding.{Onboarding}
+use Rattle.sz_artifacts.specs.declared.conveyed.onboarding.Onboarding.{Onboarding}
 use Rattle.sz_disk.specs.Disk.{Seen, LeavesOnly}
 use Rattle.sz_evidence.specs.Authorised.{Authorised}
 use Rattle.sz_evidence.specs.declared.reason.Reason.{Reason}

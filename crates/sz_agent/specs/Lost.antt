@@ -2,7 +2,7 @@
 use Rattle.std.specs.Prelude.{◌≡◌, ◌≢◌, ℕ, List, Result, Ok, Err, count_by}
 use Rattle.sz_evidence.specs.declared.reason.Reason.{Reason}
 use Rattle.sz_evidence.specs.declared.reason.Reason.TheVariants as reason
-use Rattle.sz_image.specs.Downloads.{RoseBy}
+use Rattle.sz_spec.specs.Cause.{RoseBy}
 use Rattle.sz_walk.specs.Visits.{was_lost_file, was_lost_server}
 use Rattle.sz_walk.specs.declared.visit.Visit.{Visit}
 use Rattle.sz_agent.specs.declared.choice.Choice.{Choice}

@@ -2,7 +2,7 @@
 -- off.
 use Rattle.std.specs.Prelude.{◌≡◌, ◌≤◌, List, [], ◌++◌, length, None}
 use Rattle.sz_base.specs.declared.evidence.Evidence.{Evidence}
-use Rattle.sz_conveyed.specs.declared.onboarding.Onboarding.{Onboarding}
+use Rattle.sz_artifacts.specs.declared.conveyed.onboarding.Onboarding.{Onboarding}
 use Rattle.sz_io.specs.Added.{Adds}
 use Rattle.sz_io.specs.Folder.{FileMap}
 use Rattle.sz_io.specs.Net.{Traffic}

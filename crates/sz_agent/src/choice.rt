@@ -1,7 +1,7 @@
 //! What the walk of a boot comes to.
 
+use sz_artifacts::Onboarding;
 use sz_base::Evidence;
-use sz_conveyed::Onboarding;
 use sz_state::Staged;
 use sz_walk::Visits;
 

@@ -5,7 +5,7 @@ ghost use Rattle.std.specs.Prelude.{◌≡◌, ◌<◌, ◌^◌, length};
 ghost use Rattle.sz_agent.specs.Choice.{HasChoiceWidths, HasHashWidth};
 
 use crate::choice::Choice;
-use sz_conveyed::Onboarding;
+use sz_artifacts::Onboarding;
 use sz_state::Staged;
 
 /// What is chosen fits its types.

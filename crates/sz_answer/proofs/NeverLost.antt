@@ -9,8 +9,8 @@ use Rattle.sz_cms.specs.declared.fault.InfoKind.{InfoKind}
 use Rattle.sz_cms.specs.declared.fault.InfoKind.TheVariants as kind
 use Rattle.sz_cms.specs.declared.identifier.TheConstants.{CONVEYED_JSON, CONVEYED_XML, DATA, ENVELOPED_DATA}
 use Rattle.std.specs.Prelude.{◌||◌, bytes_eq}
-use Rattle.sz_voucher.specs.declared.judgement.VoucherFault.{VoucherFault}
-use Rattle.sz_voucher.specs.declared.judgement.VoucherFault.TheVariants as voucher_fault
+use Rattle.sz_artifacts.specs.declared.voucher.judgement.VoucherFault.{VoucherFault}
+use Rattle.sz_artifacts.specs.declared.voucher.judgement.VoucherFault.TheVariants as voucher_fault
 use Rattle.sz_evidence.specs.Judgement.{First, information_rules, Judgement, kind_in, message_reason, message_reason_of, OtherKind, owner_rules, plain_rules, Rule, rules_of, Unreadable, voucher_reason, voucher_rules}
 use Rattle.sz_evidence.specs.declared.reason.Artifact.{Artifact}
 use Rattle.sz_evidence.specs.declared.reason.Artifact.TheVariants as artifact

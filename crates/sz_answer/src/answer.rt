@@ -1,7 +1,7 @@
 //! What a visit comes to.
 
+use sz_artifacts::Onboarding;
 use sz_base::{Evidence, Targets};
-use sz_conveyed::Onboarding;
 use sz_evidence::Reason;
 
 /// What a visit comes to, before an offer is tried.

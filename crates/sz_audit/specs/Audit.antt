@@ -5,7 +5,7 @@ use Rattle.sz_base.specs.declared.evidence.Evidence.{Evidence}
 use Rattle.sz_base.specs.declared.identity.Identity.{Identity}
 use Rattle.sz_base.specs.declared.moment.Moment.{Moment}
 use Rattle.sz_base.specs.declared.target.Target.{Target}
-use Rattle.sz_conveyed.specs.declared.onboarding.Onboarding.{Onboarding}
+use Rattle.sz_artifacts.specs.declared.conveyed.onboarding.Onboarding.{Onboarding}
 use Rattle.sz_evidence.specs.Authorised.{Authorised}
 use Rattle.sz_evidence.specs.Judgement.{Judgement}
 use Rattle.sz_evidence.specs.declared.judgement.Judged.TheVariants as judged

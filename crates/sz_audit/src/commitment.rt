@@ -7,8 +7,8 @@ ghost use Rattle.sz_audit.specs.Audit.{FindsCommitment, HasFields};
 use crate::Found;
 use crate::judging::{Stored, judge_stored};
 use std::alloc::Global;
+use sz_artifacts::Onboarding;
 use sz_base::{Bytes, Identity};
-use sz_conveyed::Onboarding;
 use sz_record::Committed;
 use sz_state::StateFault;
 

@@ -5,8 +5,8 @@ ghost use Rattle.sz_base.specs.Identity.{IsWhole};
 ghost use Rattle.sz_audit.specs.Audit.{IsStored};
 
 use std::alloc::Global;
+use sz_artifacts::Onboarding;
 use sz_base::{Evidence, Identity, Moment, OutOfMemory};
-use sz_conveyed::Onboarding;
 use sz_evidence::{Judged, Reason, Refusal, judge};
 
 /// What stored evidence is.

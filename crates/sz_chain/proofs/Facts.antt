@@ -3,17 +3,17 @@ use Rattle.std.proofs.Common.{◌≡◌, ◌<◌, ◌⊎◌, ℕ, ℤ, Bool, tru
 use Rattle.std.proofs.lemmas.Option.{same_Some}
 use Rattle.std.specs.List.{AllByRecursion}
 use Rattle.sz_cms.specs.Message.{Signed, Signer}
-use Rattle.sz_path.specs.Chain.{IsIn, lowest}
-use Rattle.sz_path.specs.Places.{ArePlaces, Stands}
-use Rattle.sz_path.specs.Sets.{AreAt, has}
-use Rattle.sz_path.specs.Ways.{IsChained, is_none}
-use Rattle.sz_path.specs.declared.place.Place.{Place}
-use Rattle.sz_path.specs.declared.set.PlaceSet.{PlaceSet}
+use Rattle.sz_chain.specs.Chain.{IsIn, lowest}
+use Rattle.sz_chain.specs.Places.{ArePlaces, StandsAmong}
+use Rattle.sz_chain.specs.Sets.{AreAt, has}
+use Rattle.sz_chain.specs.Ways.{IsChained, is_none}
+use Rattle.sz_chain.specs.declared.place.Place.{Place}
+use Rattle.sz_chain.specs.declared.set.PlaceSet.{PlaceSet}
 use Rattle.sz_x509.specs.Certificate.{Certificate}
 use Rattle.sz_x509.specs.View.{view}
-use Rattle.sz_chain.specs.Places.{AreFitting, FitsOne, VerifiesOne}
-use Rattle.sz_chain.specs.SignedBy.{HasCandidate, HasFitting, HasVerified, IsSigned, SignedBy}
-use Rattle.sz_chain.specs.Signers.{Fits, IsFitting, Verifies}
+use Rattle.sz_chain.specs.Candidates.{AreFitting, FitsOne, VerifiesOne}
+use Rattle.sz_chain.specs.SignedBy.{HasCandidate, HasFitting, HasVerified, IsSignedByOne, SignedBy}
+use Rattle.sz_chain.specs.Signers.{FitsIdentifier, IsFitting, Verifies}
 
 first : (signers : List Signer) → 0 < length signers → (signer : Signer) × Contains signers signer
 first [] some = absurd (omega arith)
@@ -41,7 +41,7 @@ module _ (signed : Signed) (content : List ℕ) (signers : List Signer) (has_con
     in_either cert true is = inr is
     in_either cert false is = inl is
 
-    stands_either : (cert : Certificate) → IsIn bag cert ⊎ IsIn anchors cert → (kind : Bool) × Stands places kind cert
+    stands_either : (cert : Certificate) → IsIn bag cert ⊎ IsIn anchors cert → (kind : Bool) × StandsAmong places kind cert
     stands_either cert (inl is) = (false, are.each_cert cert is)
     stands_either cert (inr is) = (true, are.each_anchor cert is)
 
@@ -69,7 +69,7 @@ module _ (signed : Signed) (content : List ℕ) (signers : List Signer) (has_con
           record {
             signer = is.signer;
             is_signer = among is.content is.signer is.has_content is.is_fitting;
-            fits = subst (λ (c : Certificate). Fits is.signer.identifier c) (sym stands.is_cert) is.fits;
+            fits = subst (λ (c : Certificate). FitsIdentifier is.signer.identifier c) (sym stands.is_cert) is.fits;
           },
         ) in
         true≢false (sym in_set ∙ none stands.at)
@@ -91,11 +91,11 @@ module _ (signed : Signed) (content : List ℕ) (signers : List Signer) (has_con
         }
 
     verifies_at : (other : List ℕ) (signer : Signer) (cert : Certificate) (kind : Bool) → signed.content ≡ Some other → IsFitting signed other signer →
-        Fits signer.identifier cert → Verifies signer other cert → (stands : Stands places kind cert) → VerifiesOne signers content stands.place
+        FitsIdentifier signer.identifier cert → Verifies signer other cert → (stands : StandsAmong places kind cert) → VerifiesOne signers content stands.place
     verifies_at other signer cert kind is fits_digest fits verifies stands = record {
       signer = signer;
       is_signer = among other signer is fits_digest;
-      fits = subst (λ (c : Certificate). Fits signer.identifier c) (sym stands.is_cert) fits;
+      fits = subst (λ (c : Certificate). FitsIdentifier signer.identifier c) (sym stands.is_cert) fits;
       verifies =
           let same : other ≡ content = same_Some other content (sym is ∙ has_content) in
           subst (λ (c : Certificate). Verifies signer content c) (sym stands.is_cert)
@@ -113,22 +113,22 @@ module _ (signed : Signed) (content : List ℕ) (signers : List Signer) (has_con
 
     -- ---- chains
 
-    in_kind : (cert : Certificate) (kind : Bool) → Stands places kind cert → IsIn (cond kind anchors bag) cert
+    in_kind : (cert : Certificate) (kind : Bool) → StandsAmong places kind cert → IsIn (cond kind anchors bag) cert
     in_kind cert kind stands =
         let is = are.each stands.at stands.place stands.is_at in
         subst (λ (c : Certificate). IsIn (cond kind anchors bag) c) stands.is_cert
         (subst (λ (k : Bool). IsIn (cond k anchors bag) (view stands.place.cert)) stands.kind is)
 
-    all_in : (certs : List Certificate) → AllByRecursion (Stands places false) certs → AllByRecursion (IsIn bag) certs
+    all_in : (certs : List Certificate) → AllByRecursion (StandsAmong places false) certs → AllByRecursion (IsIn bag) certs
     all_in [] stand = tt
     all_in (cert ∷ above) stand = (in_kind cert false stand.0, all_in above stand.1)
 
-    all_stand : (certs : List Certificate) → AllByRecursion (IsIn bag) certs → AllByRecursion (Stands places false) certs
+    all_stand : (certs : List Certificate) → AllByRecursion (IsIn bag) certs → AllByRecursion (StandsAmong places false) certs
     all_stand [] in_bag = tt
     all_stand (cert ∷ above) in_bag = (are.each_cert cert in_bag.0, all_stand above in_bag.1)
 
-    lowest_stands : (certs : List Certificate) (anchor : Certificate) → AllByRecursion (Stands places false) certs → Stands places true anchor →
-        Stands places (is_none certs) (lowest certs anchor)
+    lowest_stands : (certs : List Certificate) (anchor : Certificate) → AllByRecursion (StandsAmong places false) certs → StandsAmong places true anchor →
+        StandsAmong places (is_none certs) (lowest certs anchor)
     lowest_stands [] anchor stand stands = stands
     lowest_stands (cert ∷ above) anchor stand stands = stand.0
 
@@ -146,11 +146,11 @@ module _ (signed : Signed) (content : List ℕ) (signers : List Signer) (has_con
             in_bag = all_in is.certs is.are_certs;
             is_anchor = in_kind is.anchor true is.is_anchor;
             chain = is.chain;
-            fits = subst (λ (c : Certificate). Fits one.signer.identifier c) is.is_lowest one.fits;
+            fits = subst (λ (c : Certificate). FitsIdentifier one.signer.identifier c) is.is_lowest one.fits;
             verifies = subst (λ (c : Certificate). Verifies one.signer content c) is.is_lowest one.verifies;
           }
 
-      pub chained_from : IsSigned signed bag anchors crls when → IsChained crls when set places
+      pub chained_from : IsSignedByOne signed bag anchors crls when → IsChained crls when set places
       chained_from (other, is) =
           let stand = all_stand is.certs is.in_bag in
           let anchor = are.each_anchor is.anchor is.is_anchor in

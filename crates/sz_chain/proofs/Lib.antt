@@ -1,3 +1,16 @@
+pub mod Elements
+pub mod SetBits
+pub mod InSets
+pub mod Standing
+pub mod Told
+pub mod Clears
+pub mod Least
+pub mod Rows
+pub mod Verified
+pub mod Climbing
+pub mod Reading
+pub mod Issued
+pub mod Unlisted
 pub mod Refusals
 pub mod Facts
 pub mod OneSigner

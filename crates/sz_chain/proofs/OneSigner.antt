@@ -11,15 +11,15 @@ use Rattle.sz_cms.specs.View.{names_of, signed_of, signer_of}
 use Rattle.sz_cms.specs.declared.info.Signed as read
 use Rattle.sz_cms.specs.declared.signer.Signer.{Signer}
 use Rattle.sz_lms.specs.Hss.{HssOk}
-use Rattle.sz_path.specs.Sets.{AreAt, has}
-use Rattle.sz_path.specs.declared.place.Place.{Place}
-use Rattle.sz_path.specs.declared.set.PlaceSet.{PlaceSet}
-use Rattle.sz_path.proofs.Elements.{at_one}
-use Rattle.sz_path.proofs.InSets.{either_at}
+use Rattle.sz_chain.specs.Sets.{AreAt, has}
+use Rattle.sz_chain.specs.declared.place.Place.{Place}
+use Rattle.sz_chain.specs.declared.set.PlaceSet.{PlaceSet}
+use Rattle.sz_chain.proofs.Elements.{at_one}
+use Rattle.sz_chain.proofs.InSets.{either_at}
 use Rattle.sz_x509.specs.View.{view}
-use Rattle.sz_chain.specs.Places.{AreFitting, FitsOne, VerifiesOne}
+use Rattle.sz_chain.specs.Candidates.{AreFitting, FitsOne, VerifiesOne}
 use Rattle.sz_chain.specs.SignedBy.{HasSigner}
-use Rattle.sz_chain.specs.Signers.{Fits, Verifies}
+use Rattle.sz_chain.specs.Signers.{FitsIdentifier, Verifies}
 
 -- ---- signers whose digest fits
 
@@ -77,9 +77,9 @@ module _ (places : List Place) where
   -- the places for one signer more
   pub fits_more : (signers : List message.Signer) (next : message.Signer) (earlier one new : PlaceSet) →
       ((place : ℕ) → has new place ≡ (has earlier place || has one place)) → AreAt places (λ _. FitsOne signers) earlier →
-      AreAt places (λ _ place. Fits next.identifier (view place.cert)) one → AreAt places (λ _. FitsOne (signers ++ next ∷ [])) new
+      AreAt places (λ _ place. FitsIdentifier next.identifier (view place.cert)) one → AreAt places (λ _. FitsOne (signers ++ next ∷ [])) new
   fits_more signers next earlier one new put are is =
-      either_at places (λ _. FitsOne signers) (λ _ place. Fits next.identifier (view place.cert)) (λ _. FitsOne (signers ++ next ∷ []))
+      either_at places (λ _. FitsOne signers) (λ _ place. FitsIdentifier next.identifier (view place.cert)) (λ _. FitsOne (signers ++ next ∷ []))
       earlier one new put are is
       (λ at place told. elim told [
         | inl old ↦ record {
@@ -91,15 +91,16 @@ module _ (places : List Place) where
       ])
       (λ at place told. elim (Contains-push_cases signers next told.signer told.is_signer) [
         | inl old ↦ inl (record { signer = told.signer; is_signer = old; fits = told.fits })
-        | inr same ↦ inr (subst (λ (s : message.Signer). Fits s.identifier (view place.cert)) (sym same) told.fits)
+        | inr same ↦ inr (subst (λ (s : message.Signer). FitsIdentifier s.identifier (view place.cert)) (sym same) told.fits)
       ])
 
   pub verifies_more : (content : List ℕ) (signers : List message.Signer) (next : message.Signer) (earlier one new : PlaceSet) →
       ((place : ℕ) → has new place ≡ (has earlier place || has one place)) → AreAt places (λ _. VerifiesOne signers content) earlier →
-      AreAt places (λ _ place. Fits next.identifier (view place.cert) × Verifies next content (view place.cert)) one →
+      AreAt places (λ _ place. FitsIdentifier next.identifier (view place.cert) × Verifies next content (view place.cert)) one →
       AreAt places (λ _. VerifiesOne (signers ++ next ∷ []) content) new
   verifies_more content signers next earlier one new put are is =
-      either_at places (λ _. VerifiesOne signers content) (λ _ place. Fits next.identifier (view place.cert) × Verifies next content (view place.cert))
+      either_at places (λ _. VerifiesOne signers content)
+      (λ _ place. FitsIdentifier next.identifier (view place.cert) × Verifies next content (view place.cert))
       (λ _. VerifiesOne (signers ++ next ∷ []) content) earlier one new put are is
       (λ at place told. elim told [
         | inl old ↦ record {
@@ -113,7 +114,7 @@ module _ (places : List Place) where
       (λ at place told. elim (Contains-push_cases signers next told.signer told.is_signer) [
         | inl old ↦ inl (record { signer = told.signer; is_signer = old; fits = told.fits; verifies = told.verifies })
         | inr same ↦ inr (
-          subst (λ (s : message.Signer). Fits s.identifier (view place.cert)) (sym same) told.fits,
+          subst (λ (s : message.Signer). FitsIdentifier s.identifier (view place.cert)) (sym same) told.fits,
           subst (λ (s : message.Signer). Verifies s content (view place.cert)) (sym same) told.verifies,
         )
       ])
@@ -149,14 +150,14 @@ module _ (signers : List Signer) (i : ℕ) (d : Signer) (within : i < length sig
 
   module _ (places : List Place) (earlier one new : PlaceSet) (put : (place : ℕ) → has new place ≡ (has earlier place || has one place)) where
     pub fits_step : AreAt places (λ _. FitsOne (map signer_of (take i signers))) earlier →
-        AreAt places (λ _ place. Fits (names_of (get_or signers i d).identifier) (view place.cert)) one →
+        AreAt places (λ _ place. FitsIdentifier (names_of (get_or signers i d).identifier) (view place.cert)) one →
         AreAt places (λ _. FitsOne (map signer_of (take (i + 1) signers))) new
     fits_step are is =
         subst (λ (s : List message.Signer). AreAt places (λ _. FitsOne s) new) (sym more)
         (fits_more places (map signer_of (take i signers)) (signer_of (get_or signers i d)) earlier one new put are is)
 
     pub verifies_step : (content : List ℕ) → AreAt places (λ _. VerifiesOne (map signer_of (take i signers)) content) earlier →
-        AreAt places (λ _ place. Fits (names_of (get_or signers i d).identifier) (view place.cert)
+        AreAt places (λ _ place. FitsIdentifier (names_of (get_or signers i d).identifier) (view place.cert)
         × Verifies (signer_of (get_or signers i d)) content (view place.cert)) one →
         AreAt places (λ _. VerifiesOne (map signer_of (take (i + 1) signers)) content) new
     verifies_step content are is =
@@ -175,9 +176,9 @@ key_of place = refl
 
 pub verified_is : (places : List Place) (signer : Signer) (content bytes : List ℕ) (fitting set : PlaceSet) →
     bytes ≡ covered_of (signer_of signer) content →
-    AreAt places (λ _ place. Fits (names_of signer.identifier) (view place.cert)) fitting →
+    AreAt places (λ _ place. FitsIdentifier (names_of signer.identifier) (view place.cert)) fitting →
     AreAt places (λ at place. (has fitting at ≡ true) × HssOk place.cert.key.now bytes signer.signature.now) set →
-    AreAt places (λ _ place. Fits (names_of signer.identifier) (view place.cert) × Verifies (signer_of signer) content (view place.cert)) set
+    AreAt places (λ _ place. FitsIdentifier (names_of signer.identifier) (view place.cert) × Verifies (signer_of signer) content (view place.cert)) set
 verified_is places signer content bytes fitting set e fits verified place = (
   λ is.
       let told = (verified place).0 is in
@@ -186,7 +187,7 @@ verified_is places signer content bytes fitting set e fits verified place = (
         told.0,
         told.1,
         (
-          subst (λ (p : Place). Fits (names_of signer.identifier) (view p.cert)) same fit.2,
+          subst (λ (p : Place). FitsIdentifier (names_of signer.identifier) (view p.cert)) same fit.2,
           subst (λ (k : List ℕ). HssOk k (covered_of (signer_of signer) content) signer.signature.now) (sym (key_of told.0))
               (subst (λ (b : List ℕ). HssOk told.0.cert.key.now b signer.signature.now) e told.2.1),
         ),

@@ -3,17 +3,17 @@ use Rattle.std.proofs.Common.{◌≡◌, ◌≤◌, ◌<◌, ◌⊎◌, ◌-◌,
 use Rattle.std.proofs.lemmas.Bool.{cases_eq, cases_order}
 use Rattle.std.specs.List.{AllByRecursion}
 use Rattle.sz_cms.specs.Message.{Signed}
-use Rattle.sz_path.specs.Chain.{IsIn, lowest}
-use Rattle.sz_path.proofs.Unlisted.{without_lists}
+use Rattle.sz_chain.specs.Chain.{IsIn, lowest}
+use Rattle.sz_chain.proofs.Unlisted.{without_lists}
 use Rattle.sz_x509.specs.Certificate.{Certificate}
-use Rattle.sz_chain.specs.SignedBy.{HasCandidate, HasFitting, HasSigner, HasVerified, IsRefused, IsSigned, SignedBy}
+use Rattle.sz_chain.specs.SignedBy.{HasCandidate, HasFitting, HasSigner, HasVerified, IsUnsignedFor, IsSignedByOne, SignedBy}
 use Rattle.sz_chain.specs.declared.fault.ChainFault.{ChainFault}
 use Rattle.sz_chain.specs.declared.fault.ChainFault.TheVariants as fault
 use Rattle.sz_chain.specs.declared.fault.Why.TheVariants as why
 
 module _ (signed : Signed) (bag anchors : List (List ℕ)) (crls : Option (List (List ℕ))) (when : ℤ) where
   -- a chain that lists clear is one without lists
-  signed_without_lists : IsSigned signed bag anchors crls when → IsSigned signed bag anchors None when
+  signed_without_lists : IsSignedByOne signed bag anchors crls when → IsSignedByOne signed bag anchors None when
   signed_without_lists (content, is) = (
     content,
     record {
@@ -35,7 +35,7 @@ module _ (signed : Signed) (bag anchors : List (List ℕ)) (crls : Option (List 
   lowest_in [] anchor in_bag is_anchor = inr is_anchor
   lowest_in (cert ∷ above) anchor in_bag is_anchor = inl in_bag.0
 
-  verified_from : IsSigned signed bag anchors None when → HasVerified signed bag anchors
+  verified_from : IsSignedByOne signed bag anchors None when → HasVerified signed bag anchors
   verified_from (content, is) = record {
     content = content;
     signer = is.signer;
@@ -53,8 +53,8 @@ module _ (signed : Signed) (bag anchors : List (List ℕ)) (crls : Option (List 
   Has (suc zero) = HasFitting signed
   Has (suc (suc zero)) = HasCandidate signed bag anchors
   Has (suc (suc (suc zero))) = HasVerified signed bag anchors
-  Has (suc (suc (suc (suc zero)))) = IsSigned signed bag anchors None when
-  Has (suc (suc (suc (suc (suc n))))) = IsSigned signed bag anchors crls when
+  Has (suc (suc (suc (suc zero)))) = IsSignedByOne signed bag anchors None when
+  Has (suc (suc (suc (suc (suc n))))) = IsSignedByOne signed bag anchors crls when
 
   less : (n : ℕ) → Has (suc n) → Has n
   unfolding Has
@@ -110,7 +110,7 @@ module _ (signed : Signed) (bag anchors : List (List ℕ)) (crls : Option (List 
   back (fault.NoChain why.Path) = refl
   back (fault.NoChain why.Revoked) = refl
 
-  misses : (f : ChainFault) → IsRefused signed bag anchors crls when f → Has (level f) → ⊥
+  misses : (f : ChainFault) → IsUnsignedFor signed bag anchors crls when f → Has (level f) → ⊥
   unfolding level Has
   misses fault.NoSigner is has = is has
   misses fault.BadDigest is has = is.1 has
@@ -119,7 +119,7 @@ module _ (signed : Signed) (bag anchors : List (List ℕ)) (crls : Option (List 
   misses (fault.NoChain why.Path) is has = is.1 has
   misses (fault.NoChain why.Revoked) is has = is.1 has
 
-  before : (f : ChainFault) → IsRefused signed bag anchors crls when f → (n : ℕ) → n < level f → Has (level f - 1)
+  before : (f : ChainFault) → IsUnsignedFor signed bag anchors crls when f → (n : ℕ) → n < level f → Has (level f - 1)
   unfolding level Has
   before fault.NoSigner is n some = absurd (omega arith)
   before fault.BadDigest is n some = is.0
@@ -128,10 +128,10 @@ module _ (signed : Signed) (bag anchors : List (List ℕ)) (crls : Option (List 
   before (fault.NoChain why.Path) is n some = is.0
   before (fault.NoChain why.Revoked) is n some = is.0
 
-  earlier : (f g : ChainFault) → IsRefused signed bag anchors crls when f → IsRefused signed bag anchors crls when g → level f < level g → ⊥
+  earlier : (f g : ChainFault) → IsUnsignedFor signed bag anchors crls when f → IsUnsignedFor signed bag anchors crls when g → level f < level g → ⊥
   earlier f g p q lt = misses f p (down (level f) (level g - 1) (omega arith) (before g q (level f) lt))
 
-  pub one_fault : (f g : ChainFault) → IsRefused signed bag anchors crls when f → IsRefused signed bag anchors crls when g → f ≡ g
+  pub one_fault : (f g : ChainFault) → IsUnsignedFor signed bag anchors crls when f → IsUnsignedFor signed bag anchors crls when g → f ≡ g
   one_fault f g p q =
       elim (cases_order (level f) (level g)) [
         | inl same ↦ sym (back f) ∙ ap fault_at same ∙ back g
@@ -150,10 +150,10 @@ module _ (signed : Signed) (bag anchors : List (List ℕ)) (crls : Option (List 
   level_few (fault.NoChain why.Path) = omega arith
   level_few (fault.NoChain why.Revoked) = omega arith
 
-  has_all : IsSigned signed bag anchors crls when → Has 5
+  has_all : IsSignedByOne signed bag anchors crls when → Has 5
   unfolding Has
   has_all is = is
 
   -- what is signed isn't refused
-  pub not_both : (f : ChainFault) (content : List ℕ) → IsRefused signed bag anchors crls when f → SignedBy signed bag anchors crls when content → ⊥
+  pub not_both : (f : ChainFault) (content : List ℕ) → IsUnsignedFor signed bag anchors crls when f → SignedBy signed bag anchors crls when content → ⊥
   not_both f content p is = misses f p (down (level f) 5 (level_few f) (has_all (content, is)))

@@ -1,3 +1,13 @@
+pub mod Issuer
+pub mod Bags
+pub mod Cleared
+pub mod Chain
+pub mod Sets
+pub mod Places
+pub mod Links
+pub mod Lists
+pub mod Search
+pub mod Ways
 pub mod Signers
 pub mod SignedBy
-pub mod Places
+pub mod Candidates

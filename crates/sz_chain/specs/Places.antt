@@ -1,24 +1,37 @@
--- The signers whose digest fits, and the places of certificates that fit them.
-use Rattle.std.specs.Prelude.{◌↔◌, ℕ, List}
-use Rattle.std.specs.List.{Contains}
-use Rattle.sz_cms.specs.Message.{Signed, Signer}
-use Rattle.sz_path.specs.declared.place.Place.{Place}
+-- The certificates that read, of the anchors and of the bag, each at a place.
+use Rattle.std.specs.Prelude.{◌≡◌, ℕ, Bool, true, false, if◌then◌else◌, List, None}
+use Rattle.sz_x509.specs.Certificate.{Certificate}
 use Rattle.sz_x509.specs.View.{view}
-use Rattle.sz_chain.specs.Signers.{Fits, IsFitting, Verifies}
+use Rattle.sz_chain.specs.Chain.{IsIn}
+use Rattle.sz_chain.specs.Issuer.{Issuer}
+use Rattle.sz_chain.specs.Sets.{At}
+use Rattle.sz_chain.specs.declared.place.Place.{Place}
 
--- these are the signers whose digest fits
-abbrev pub AreFitting : Signed → List ℕ → List Signer → Type 0
-AreFitting signed content signers = (signer : Signer) → Contains signers signer ↔ IsFitting signed content signer
+-- what a place issues by: an anchor gives a name and a key alone
+abbrev pub issuer_at : Place → Issuer
+issuer_at place = record {
+  name = (view place.cert).subject;
+  key = (view place.cert).key;
+  usage = if place.is_anchor then None else (view place.cert).restrictions.usage;
+}
 
--- the certificate at the place fits one of the signers
-pub record FitsOne (signers : List Signer) (place : Place) : Type 0 where
-  pub signer : Signer
-  pub is_signer : Contains signers signer
-  pub fits : Fits signer.identifier (view place.cert)
+-- the certificate stands at one of the places, as an anchor or not
+pub record StandsAmong (places : List Place) (is_anchor : Bool) (cert : Certificate) : Type 0 where
+  pub at : ℕ
+  pub place : Place
+  pub is_at : At places at place
+  pub kind : place.is_anchor ≡ is_anchor
+  pub is_cert : view place.cert ≡ cert
 
--- and the signer's signature verifies under its key
-pub record VerifiesOne (signers : List Signer) (content : List ℕ) (place : Place) : Type 0 where
-  pub signer : Signer
-  pub is_signer : Contains signers signer
-  pub fits : Fits signer.identifier (view place.cert)
-  pub verifies : Verifies signer content (view place.cert)
+-- these are the certificates among the strings, all anchors or none
+pub record AreOf (is_anchor : Bool) (certs : List (List ℕ)) (places : List Place) : Type 0 where
+  pub each : (at : ℕ) (place : Place) → At places at place
+      → (place.is_anchor ≡ is_anchor) × IsIn certs (view place.cert)
+  pub all : (cert : Certificate) → IsIn certs cert → StandsAmong places is_anchor cert
+
+-- these are the certificates among the anchors and those of the bag
+pub record ArePlaces (anchors bag : List (List ℕ)) (places : List Place) : Type 0 where
+  pub each : (at : ℕ) (place : Place) → At places at place
+      → IsIn (if place.is_anchor then anchors else bag) (view place.cert)
+  pub each_anchor : (cert : Certificate) → IsIn anchors cert → StandsAmong places true cert
+  pub each_cert : (cert : Certificate) → IsIn bag cert → StandsAmong places false cert

@@ -2,9 +2,9 @@
 use Rattle.std.specs.Prelude.{◌≡◌, ◌⊎◌, ℕ, ℤ, List, Option, Some, None}
 use Rattle.std.specs.List.{AllByRecursion, Contains}
 use Rattle.sz_cms.specs.Message.{Signed, Signer}
-use Rattle.sz_path.specs.Chain.{Chain, IsIn, lowest}
+use Rattle.sz_chain.specs.Chain.{Chain, IsIn, lowest}
 use Rattle.sz_x509.specs.Certificate.{Certificate}
-use Rattle.sz_chain.specs.Signers.{Fits, IsFitting, Verifies}
+use Rattle.sz_chain.specs.Signers.{FitsIdentifier, IsFitting, Verifies}
 use Rattle.sz_chain.specs.declared.fault.ChainFault.{ChainFault}
 use Rattle.sz_chain.specs.declared.fault.ChainFault.TheVariants as fault
 use Rattle.sz_chain.specs.declared.fault.Why.TheVariants as why
@@ -21,7 +21,7 @@ pub record SignedBy (signed : Signed) (bag anchors : List (List ℕ)) (crls : Op
   pub in_bag : AllByRecursion (IsIn bag) certs
   pub is_anchor : IsIn anchors anchor
   pub chain : Chain crls when certs anchor
-  pub fits : Fits signer.identifier (lowest certs anchor)
+  pub fits : FitsIdentifier signer.identifier (lowest certs anchor)
   pub verifies : Verifies signer content (lowest certs anchor)
 
 -- ---- what there is, each more than the one before
@@ -48,7 +48,7 @@ pub record HasCandidate (signed : Signed) (bag anchors : List (List ℕ)) : Type
   pub has_content : signed.content ≡ Some content
   pub is_fitting : IsFitting signed content signer
   pub is_cert : IsIn bag cert ⊎ IsIn anchors cert
-  pub fits : Fits signer.identifier cert
+  pub fits : FitsIdentifier signer.identifier cert
 
 -- one whose key verifies the signer's signature
 pub record HasVerified (signed : Signed) (bag anchors : List (List ℕ)) : Type 0 where
@@ -58,23 +58,23 @@ pub record HasVerified (signed : Signed) (bag anchors : List (List ℕ)) : Type 
   pub has_content : signed.content ≡ Some content
   pub is_fitting : IsFitting signed content signer
   pub is_cert : IsIn bag cert ⊎ IsIn anchors cert
-  pub fits : Fits signer.identifier cert
+  pub fits : FitsIdentifier signer.identifier cert
   pub verifies : Verifies signer content cert
 
 -- one from which a chain leads up to an anchor
-abbrev pub IsSigned : Signed → List (List ℕ) → List (List ℕ) → Option (List (List ℕ)) → ℤ → Type 0
-IsSigned signed bag anchors crls when = (content : List ℕ) × SignedBy signed bag anchors crls when content
+abbrev pub IsSignedByOne : Signed → List (List ℕ) → List (List ℕ) → Option (List (List ℕ)) → ℤ → Type 0
+IsSignedByOne signed bag anchors crls when = (content : List ℕ) × SignedBy signed bag anchors crls when content
 
 -- ---- why not: what there is, and what there isn't
 
-abbrev pub IsRefused : Signed → List (List ℕ) → List (List ℕ) → Option (List (List ℕ)) → ℤ → ChainFault → Type 0
-IsRefused signed bag anchors crls when fault.NoSigner = HasSigner signed → ⊥
-IsRefused signed bag anchors crls when fault.BadDigest = HasSigner signed × (HasFitting signed → ⊥)
-IsRefused signed bag anchors crls when (fault.NoChain why.NoCandidate) =
+abbrev pub IsUnsignedFor : Signed → List (List ℕ) → List (List ℕ) → Option (List (List ℕ)) → ℤ → ChainFault → Type 0
+IsUnsignedFor signed bag anchors crls when fault.NoSigner = HasSigner signed → ⊥
+IsUnsignedFor signed bag anchors crls when fault.BadDigest = HasSigner signed × (HasFitting signed → ⊥)
+IsUnsignedFor signed bag anchors crls when (fault.NoChain why.NoCandidate) =
     HasFitting signed × (HasCandidate signed bag anchors → ⊥)
-IsRefused signed bag anchors crls when (fault.NoChain why.Signature) =
+IsUnsignedFor signed bag anchors crls when (fault.NoChain why.Signature) =
     HasCandidate signed bag anchors × (HasVerified signed bag anchors → ⊥)
-IsRefused signed bag anchors crls when (fault.NoChain why.Path) =
-    HasVerified signed bag anchors × (IsSigned signed bag anchors None when → ⊥)
-IsRefused signed bag anchors crls when (fault.NoChain why.Revoked) =
-    IsSigned signed bag anchors None when × (IsSigned signed bag anchors crls when → ⊥)
+IsUnsignedFor signed bag anchors crls when (fault.NoChain why.Path) =
+    HasVerified signed bag anchors × (IsSignedByOne signed bag anchors None when → ⊥)
+IsUnsignedFor signed bag anchors crls when (fault.NoChain why.Revoked) =
+    IsSignedByOne signed bag anchors None when × (IsSignedByOne signed bag anchors crls when → ⊥)

@@ -7,9 +7,9 @@ use Rattle.sz_lms.specs.Hss.{HssOk}
 use Rattle.sz_x509.specs.Certificate.{Certificate}
 
 -- the certificate is the one that the identifier tells of: by its issuer and serial number, or by its key identifier
-abbrev pub Fits : Identifier → Certificate → Type 0
-Fits (IssuerSerial issuer serial) cert = (cert.issuer ≡ issuer) × (cert.serial ≡ serial)
-Fits (KeyId octets) cert = cert.restrictions.key_id ≡ Some octets
+abbrev pub FitsIdentifier : Identifier → Certificate → Type 0
+FitsIdentifier (IssuerSerial issuer serial) cert = (cert.issuer ≡ issuer) × (cert.serial ≡ serial)
+FitsIdentifier (KeyId octets) cert = cert.restrictions.key_id ≡ Some octets
 
 -- a signer of the message whose digest is that of the content
 pub record IsFitting (signed : Signed) (content : List ℕ) (signer : Signer) : Type 0 where

@@ -2,19 +2,18 @@
 
 ghost use Rattle.std.specs.Prelude.{◌≡◌, ◌<◌, ℕ, List, length, map, None, Some, IfErr, IfOk, IsErrAnd, IsOkAnd, MatchOption, MatchResult};
 ghost use Rattle.std.specs.Option.{option_copied};
-ghost use Rattle.sz_chain.specs.Places.{AreFitting};
-ghost use Rattle.sz_chain.specs.SignedBy.{HasSigner, IsRefused, SignedBy};
+ghost use Rattle.sz_chain.specs.Candidates.{AreFitting};
+ghost use Rattle.sz_chain.specs.SignedBy.{HasSigner, IsUnsignedFor, SignedBy};
 ghost use Rattle.sz_chain.specs.declared.fault.ChainFault.{ChainFault};
 ghost use Rattle.sz_chain.specs.declared.fault.ChainFault.TheVariants as refusal;
 ghost use Rattle.sz_cms.specs.Message as message;
 ghost use Rattle.sz_cms.specs.View.{signed_of, signer_of};
-ghost use Rattle.sz_path.specs.Places.{ArePlaces};
+ghost use Rattle.sz_chain.specs.Places.{ArePlaces};
 
 use crate::signers::{fitting_places, fitting_signers, verified_places};
-use crate::{Bag, ChainFault, CrlBag, Why};
+use crate::{Bag, ChainFault, CrlBag, NoChain, Places, Why, find_chain, places_of};
 use sz_base::Seconds;
 use sz_cms::{Signed, Signer};
-use sz_path::{NoChain, Places, find_chain, places_of};
 
 /// The content of a message that one of its signers signed to whom a chain of at most eight certificates of the bag
 /// leads down from one of the anchors, at the time, and with these revocation lists where there are any; and else what
@@ -30,9 +29,10 @@ pub fn signed_by<'a>(
         (option_copied crls.entry) when.0 content.now) }
     ensures only { (content : List ℕ) → SignedBy (signed_of signed.entry.now) bag.entry.now anchors.entry.now
         (option_copied crls.entry) when.0 content → IsOkAnd result (λ found. found.now ≡ content) }
-    ensures fault { IfErr result (λ fault. IsRefused (signed_of signed.entry.now) bag.entry.now anchors.entry.now
+    ensures fault { IfErr result (λ fault. IsUnsignedFor (signed_of signed.entry.now) bag.entry.now anchors.entry.now
         (option_copied crls.entry) when.0 fault) }
-    ensures only_fault { (fault : ChainFault) → IsRefused (signed_of signed.entry.now) bag.entry.now anchors.entry.now
+    ensures only_fault { (fault : ChainFault)
+        → IsUnsignedFor (signed_of signed.entry.now) bag.entry.now anchors.entry.now
         (option_copied crls.entry) when.0 fault → IsErrAnd result (λ found. found ≡ fault) }
 {
     let Some(content) = content_of(signed) else {
@@ -76,7 +76,7 @@ fn check_chain(
         → ArePlaces anchors bag places.now.items
         → MatchResult result
         (λ _. SignedBy signed bag anchors (option_copied crls.entry) when.0 content.now)
-        (λ why. IsRefused signed bag anchors (option_copied crls.entry) when.0 (refusal.NoChain why)) }
+        (λ why. IsUnsignedFor signed bag anchors (option_copied crls.entry) when.0 (refusal.NoChain why)) }
 {
     if fitting_places(places, signers).is_empty() {
         return Err(Why::NoCandidate);

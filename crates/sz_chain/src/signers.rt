@@ -2,15 +2,15 @@
 
 ghost use Rattle.std.specs.Prelude.{◌≡◌, ◌↔◌, map, Some, IsTrue};
 ghost use Rattle.std.specs.Option.{option_copied};
-ghost use Rattle.sz_chain.specs.Places.{AreFitting, FitsOne, VerifiesOne};
-ghost use Rattle.sz_chain.specs.Signers.{Fits, Verifies};
+ghost use Rattle.sz_chain.specs.Candidates.{AreFitting, FitsOne, VerifiesOne};
+ghost use Rattle.sz_chain.specs.Signers.{FitsIdentifier, Verifies};
 ghost use Rattle.sz_cms.specs.View.{names_of, signed_of, signer_of};
-ghost use Rattle.sz_path.specs.Sets.{AreAt};
+ghost use Rattle.sz_chain.specs.Sets.{AreAt};
 ghost use Rattle.sz_x509.specs.View.{view};
 
+use crate::{Place, PlaceSet, Places, Test, select, select_verifying};
 use arrayvec::ArrayVec;
 use sz_cms::{Identifier, MOST_SIGNERS, Signed, Signer};
-use sz_path::{Place, PlaceSet, Places, Test, select, select_verifying};
 use sz_x509::Cert;
 
 /// The signers whose digest is that of the content.
@@ -58,7 +58,7 @@ pub(crate) fn verified_places(
 
 // The places whose certificates fit the signer and verify its signature.
 fn verified_by(places: &Places<'_>, signer: &Signer<'_>, content: &[u8]) -> PlaceSet
-    ensures { AreAt places.now.items (λ _ place. Fits (names_of signer.now.identifier) (view place.cert)
+    ensures { AreAt places.now.items (λ _ place. FitsIdentifier (names_of signer.now.identifier) (view place.cert)
         × Verifies (signer_of signer.now) content.now (view place.cert)) result }
 {
     let fitting = select(places, &FitsSigner { signer: *signer });
@@ -72,11 +72,11 @@ struct FitsSigner<'a> {
 }
 
 impl Test for FitsSigner<'_> {
-    ghost use Rattle.sz_chain.specs.Signers.{Fits};
+    ghost use Rattle.sz_chain.specs.Signers.{FitsIdentifier};
     ghost use Rattle.sz_cms.specs.View.{names_of};
     ghost use Rattle.sz_x509.specs.View.{view};
 
-    ghost holds = { λ test place. Fits (names_of test.signer.identifier) (view place.cert) };
+    ghost holds = { λ test place. FitsIdentifier (names_of test.signer.identifier) (view place.cert) };
 
     fn passes(&self, place: &Place<'_>) -> bool {
         fits(&self.signer.identifier, &place.cert)
@@ -86,7 +86,7 @@ impl Test for FitsSigner<'_> {
 // Whether the certificate is the one that the identifier tells of.
 #[tactic(auto, unfolding(sz_x509::specs::View::view))]
 fn fits(identifier: &Identifier<'_>, cert: &Cert<'_>) -> bool
-    ensures { IsTrue result ↔ Fits (names_of identifier.now) (view cert.now) }
+    ensures { IsTrue result ↔ FitsIdentifier (names_of identifier.now) (view cert.now) }
 {
     match *identifier {
         Identifier::IssuerSerial { issuer, serial } => {

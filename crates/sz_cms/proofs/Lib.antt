@@ -5,6 +5,7 @@ pub mod Joined
 pub mod Lists
 pub mod Optional
 pub mod Readings
+pub mod SetOrder
 pub mod SignedParts
 pub mod SignerLaws
 pub mod SignerWhole
@@ -14,4 +15,5 @@ pub mod Steps
 pub mod Types
 pub mod Walk
 pub mod Whole
+pub mod WrittenOnce
 pub mod WrittenParts

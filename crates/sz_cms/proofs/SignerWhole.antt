@@ -1,6 +1,6 @@
 -- SignerInfo as a whole, and a list of them: what has no fault is spelled as the relation says, and what is spelled so
 -- has none.
-use Rattle.std.proofs.Common.{◌≡◌, ℕ, ◌+◌, inl, inr, ◌<◌, ◌≤◌, ◌&&◌, true, List, [], ◌∷◌, ◌++◌, length, None, refl, sym, ◌∙◌, arith, length-append}
+use Rattle.std.proofs.Common.{◌≡◌, ℕ, ◌+◌, inl, inr, ◌<◌, ◌≤◌, ◌&&◌, List, [], ◌∷◌, ◌++◌, length, None, refl, sym, ◌∙◌, arith, length-append}
 use Rattle.std.specs.Prelude.{map, nat_lt}
 use Rattle.std.specs.List.{concat}
 use Rattle.std.proofs.lemmas.Bool.{cases_Bool, lt-ltb, ltb-true}
@@ -8,7 +8,7 @@ use Rattle.sz_der.specs.Der.{AreOctets}
 use Rattle.sz_der.specs.declared.tag.TheConstants.{CONTEXT_CONSTRUCTED, OCTET_STRING, SEQUENCE, SET}
 use Rattle.sz_cms.specs.Message.{AreSigners, IsOptional, IsSigner, Signer, signer_parts, SignerParts, is_hss_lms, is_sha256}
 use Rattle.sz_cms.specs.MessageFault.{algorithm_spot, attributes_spot, digest_spot, each_after, identifier_spot, signature_spot, signer_fault, signer_parts_fault, signers_fault, unsigned_fault, unsigned_spot, unsigned_tag}
-use Rattle.sz_cms.specs.Parts.{after, after_optional, content_at, inside, is_next, Spot, spots_from, whole_at}
+use Rattle.sz_cms.specs.Parts.{after_optional, content_at, inside, is_next, Spot, spots_from, whole_at}
 use Rattle.sz_cms.specs.Places.{algorithm_at, attributes_at, identifier_at, signer_at, signer_from, signers_at}
 use Rattle.sz_cms.specs.declared.fault.InfoKind.TheVariants as kinds
 use Rattle.sz_cms.specs.declared.info.TheConstants.{MOST_SIGNERS}

@@ -1,14 +1,16 @@
 -- What written parts make, one after another.
-use Rattle.std.proofs.Common.{◌≡◌, ℕ, zero, suc, ◌+◌, inl, inr, ◌<◌, true, List, [], ◌∷◌, ◌++◌, length, get_or, take, drop, Some, None, refl, sym, ap, ◌∙◌, append_assoc, arith}
+use Rattle.std.proofs.Common.{◌≡◌, ℕ, zero, suc, ◌+◌, inl, inr, ◌<◌, true, List, [], ◌∷◌, ◌++◌, length, get_or, take, drop, None, refl, sym, ap, ◌∙◌, append_assoc, arith}
 use Rattle.std.specs.Prelude.{◌==◌, map, slice_index}
 use Rattle.std.specs.List.{AllByRecursion, concat}
 use Rattle.std.proofs.lemmas.List.{append-nil}
 use Rattle.sha2.specs.Sha256.{sha256}
 use Rattle.sz_der.specs.Der.{Der}
+use Rattle.sz_der.specs.Integer.{IsInteger}
 use Rattle.sz_der.specs.declared.tag.TheConstants.{CONTEXT_CONSTRUCTED, OBJECT_IDENTIFIER, OCTET_STRING, SEQUENCE, SET}
-use Rattle.sz_cms.specs.Message.{AreWritten, HasAttributes, InfoOf, IsAlgorithm, IsAttribute, IsChoicesField, IsContent, IsContentInfo, IsIssuerSerial, IsItem, IsSigned, IsSigner, IsVersion, sequences_of, Signed, SignedData, Signer}
+use Rattle.sz_cms.specs.Message.{AreWritten, HasAttributes, InfoOf, IsAlgorithm, IsAttribute, IsChoicesField, IsContent, IsContentInfo, IsItem, IsSigned, IsSigner, sequences_of, Signed, SignedData, Signer}
+use Rattle.sz_cms.specs.Spelled.{alone_of, by_hss_lms, by_sha256, content_of, IsListsField, IsOneValued, IsSignedByOne, IsWrittenSigned, IsWrittenSigner, signed_version}
 use Rattle.sz_cms.specs.Written.{AreAttributesOf, AreSequences, certs_signed, IsSequence, message_signed, written_signer}
-use Rattle.sz_cms.specs.declared.identifier.TheConstants.{CONTENT_TYPE, DATA, HSS_LMS, MESSAGE_DIGEST, SHA_256, SIGNED_DATA}
+use Rattle.sz_cms.specs.declared.identifier.TheConstants.{CONTENT_TYPE, MESSAGE_DIGEST, SIGNED_DATA}
 use Rattle.sz_cms.specs.declared.info.TheConstants.{MOST_CERTS, MOST_CRLS}
 use Rattle.sz_cms.proofs.Joined.{Der_with}
 
@@ -82,6 +84,18 @@ attributes_written kind content type_value digest_value first second bytes type 
   is_set = set;
 }
 
+pub one_valued : (type : List ℕ) (tag : ℕ) (content value bytes : List ℕ) → Der tag content value → IsAttribute (record { type = type; values = value }) bytes →
+    IsOneValued type tag content bytes
+one_valued type tag content value bytes item is = record {
+  identifier = is.identifier;
+  value = value;
+  set = is.set;
+  is_identifier = is.is_identifier;
+  is_value = item;
+  is_set = is.is_set;
+  is_sequence = is.is_sequence;
+}
+
 -- another tag in place of the first byte
 retag : (content whole : List ℕ) → Der SET content whole → Der CONTEXT_CONSTRUCTED content (CONTEXT_CONSTRUCTED ∷ drop 1 whole)
 retag content whole item = record {
@@ -108,36 +122,36 @@ tag_again kind content attributes are = ap (λ (x : List ℕ). SET ∷ drop 1 x)
 
 -- ---- a signer
 
-pub signer_written : (issuer serial attributes signature version identifier digest algorithm octets bytes : List ℕ) → IsVersion version →
-    IsIssuerSerial issuer serial identifier → IsAlgorithm (record { identifier = SHA_256; parameters = [] }) digest →
-    IsAlgorithm (record { identifier = HSS_LMS; parameters = [] }) algorithm → Der OCTET_STRING signature octets →
-    Der SEQUENCE (concat (version ∷ identifier ∷ digest ∷ (CONTEXT_CONSTRUCTED ∷ drop 1 attributes) ∷ algorithm ∷ octets ∷ [])) bytes →
+-- an octet alone
+single : (octet : ℕ) → IsInteger (octet ∷ [])
+single octet = record { some = omega arith; not_all_clear = λ long. absurd (omega arith); not_all_set = λ long. absurd (omega arith) }
+
+pub signer_says : (issuer serial attributes signature bytes : List ℕ) → IsWrittenSigner issuer serial attributes signature bytes →
     (kind content : List ℕ) → AreAttributesOf kind content attributes → IsSigner (written_signer kind content issuer serial attributes signature) bytes
-signer_written issuer serial attributes signature version identifier digest algorithm octets bytes
-    is_version is_identifier is_digest is_algorithm is_octets item kind content are =
+signer_says issuer serial attributes signature bytes is kind content are =
     record {
       parts = record {
-        version = version;
-        identifier = identifier;
-        digest_algorithm = digest;
+        version = is.version;
+        identifier = is.identifier;
+        digest_algorithm = is.digest_algorithm;
         attributes = CONTEXT_CONSTRUCTED ∷ drop 1 attributes;
-        signature_algorithm = algorithm;
-        signature = octets;
+        signature_algorithm = is.signature_algorithm;
+        signature = is.octets;
         unsigned = [];
       };
-      is_version = is_version;
-      is_identifier = is_identifier;
+      is_version = (1 ∷ [], single 1, is.is_version);
+      is_identifier = is.is_identifier;
       has_algorithms = record {
-        digest = record { identifier = SHA_256; parameters = [] };
-        signature = record { identifier = HSS_LMS; parameters = [] };
-        is_digest = is_digest;
-        is_signature = is_algorithm;
+        digest = by_sha256;
+        signature = by_hss_lms;
+        is_digest = is.is_digest_algorithm;
+        is_signature = is.is_signature_algorithm;
         told = refl;
       };
       is_attributes = (retagged kind content attributes are, refl);
-      is_signature = is_octets;
+      is_signature = is.is_signature;
       is_unsigned = inl refl;
-      is_sequence = item;
+      is_sequence = is.is_sequence;
     }
 
 -- ---- signed data
@@ -146,42 +160,57 @@ signer_written issuer serial attributes signature version identifier digest algo
 alone : {A : Type 0} (Is : A → List ℕ → Type 0) (value : A) (whole : List ℕ) → Is value whole → AreWritten Is (value ∷ []) whole
 alone Is value whole is = (whole, [], is, sym (append-nil whole), refl)
 
-pub message_written : (kind content signer : List ℕ) (certs : List (List ℕ)) (version digest algorithms encapsulated field signers bytes : List ℕ) →
-    IsVersion version → IsAlgorithm (record { identifier = SHA_256; parameters = [] }) digest → Der SET digest algorithms →
-    IsContent kind (Some content) encapsulated → IsChoicesField MOST_CERTS CONTEXT_CONSTRUCTED certs field → Der SET signer signers →
-    Der SEQUENCE (concat (version ∷ algorithms ∷ encapsulated ∷ field ∷ signers ∷ [])) bytes →
-    (whole : Signer) → IsSigner whole signer → IsSigned (message_signed kind content certs whole) bytes
-message_written kind content signer certs version digest algorithms encapsulated field signers bytes
-    is_version is_digest is_set is_content are_certs is_signers item whole is =
+pub message_says : (kind content signer bytes : List ℕ) (certs : List (List ℕ)) (whole : Signer) →
+    IsSignedByOne signer (content_of kind content certs) bytes → AreSequences MOST_CERTS certs → IsSigner whole signer →
+    IsSigned (message_signed kind content certs whole) bytes
+message_says kind content signer bytes certs whole by_one are is =
+    let signed = by_one.is_signed in
     record {
-      parts = record { version = version; algorithms = algorithms; content = encapsulated; certs = field; crls = []; signers = signers };
-      is_version = is_version;
-      are_algorithms = record {
-        algorithms = record { identifier = SHA_256; parameters = [] } ∷ [];
-        content = digest;
-        are_algorithms = alone IsAlgorithm (record { identifier = SHA_256; parameters = [] }) digest is_digest;
-        is_set = is_set;
+      parts = record {
+        version = signed.version;
+        algorithms = signed.algorithms;
+        content = signed.content;
+        certs = signed.certs;
+        crls = signed.crls;
+        signers = signed.signer_infos;
       };
-      is_content = is_content;
-      are_certs = are_certs;
-      are_crls = inl (refl, refl);
-      are_signers = record { content = signer; are_signers = alone IsSigner whole signer is; is_set = is_signers; few = omega arith };
-      is_sequence = item;
+      is_version = (signed_version kind ∷ [], single (signed_version kind), signed.is_version);
+      are_algorithms = record {
+        algorithms = by_sha256 ∷ [];
+        content = by_one.digest;
+        are_algorithms = alone IsAlgorithm by_sha256 by_one.digest by_one.is_digest;
+        is_set = signed.are_algorithms;
+      };
+      is_content = signed.is_content;
+      are_certs = choices_written MOST_CERTS CONTEXT_CONSTRUCTED certs (concat certs) signed.certs refl signed.are_certs are;
+      are_crls = inl (signed.are_crls, refl);
+      are_signers = record { content = signer; are_signers = alone IsSigner whole signer is; is_set = signed.are_signers; few = omega arith };
+      is_sequence = signed.is_sequence;
     }
 
-pub certs_written : (certs crls : List (List ℕ)) (version none encapsulated certs_field crls_field bytes : List ℕ) → IsVersion version → Der SET [] none →
-    IsContent DATA None encapsulated → IsChoicesField MOST_CERTS CONTEXT_CONSTRUCTED certs certs_field →
-    IsChoicesField MOST_CRLS (CONTEXT_CONSTRUCTED + 1) crls crls_field →
-    Der SEQUENCE (concat (version ∷ none ∷ encapsulated ∷ certs_field ∷ crls_field ∷ none ∷ [])) bytes → IsSigned (certs_signed certs crls) bytes
-certs_written certs crls version none encapsulated certs_field crls_field bytes is_version is_none is_content are_certs are_crls item = record {
-  parts = record { version = version; algorithms = none; content = encapsulated; certs = certs_field; crls = crls_field; signers = none };
-  is_version = is_version;
-  are_algorithms = record { algorithms = []; content = []; are_algorithms = refl; is_set = is_none };
-  is_content = is_content;
-  are_certs = are_certs;
-  are_crls = are_crls;
-  are_signers = record { content = []; are_signers = refl; is_set = is_none; few = omega arith };
-  is_sequence = item;
+lists_say : (crls : List (List ℕ)) (bytes : List ℕ) → IsListsField crls bytes → AreSequences MOST_CRLS crls →
+    IsChoicesField MOST_CRLS (CONTEXT_CONSTRUCTED + 1) crls bytes
+lists_say [] bytes is are = inl (is, refl)
+lists_say (crl ∷ crls) bytes is are = choices_written MOST_CRLS (CONTEXT_CONSTRUCTED + 1) (crl ∷ crls) (concat (crl ∷ crls)) bytes refl is are
+
+pub certs_say : (certs crls : List (List ℕ)) (bytes : List ℕ) → IsWrittenSigned [] [] (alone_of certs crls) bytes → AreSequences MOST_CERTS certs →
+    AreSequences MOST_CRLS crls → IsSigned (certs_signed certs crls) bytes
+certs_say certs crls bytes signed are_certs are_crls = record {
+  parts = record {
+    version = signed.version;
+    algorithms = signed.algorithms;
+    content = signed.content;
+    certs = signed.certs;
+    crls = signed.crls;
+    signers = signed.signer_infos;
+  };
+  is_version = (1 ∷ [], single 1, signed.is_version);
+  are_algorithms = record { algorithms = []; content = []; are_algorithms = refl; is_set = signed.are_algorithms };
+  is_content = signed.is_content;
+  are_certs = choices_written MOST_CERTS CONTEXT_CONSTRUCTED certs (concat certs) signed.certs refl signed.are_certs are_certs;
+  are_crls = lists_say crls signed.crls signed.are_crls are_crls;
+  are_signers = record { content = []; are_signers = refl; is_set = signed.are_signers; few = omega arith };
+  is_sequence = signed.is_sequence;
 }
 
 pub signed_info : (signed : Signed) (inner bytes : List ℕ) → IsSigned signed inner → IsContentInfo SIGNED_DATA inner bytes → InfoOf bytes (SignedData signed)

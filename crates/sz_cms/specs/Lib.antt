@@ -6,5 +6,6 @@ pub mod MessageFault
 pub mod Parts
 pub mod Places
 pub mod Signature
+pub mod Spelled
 pub mod View
 pub mod Written

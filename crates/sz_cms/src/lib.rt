@@ -20,6 +20,6 @@ mod writing;
 pub use fault::{InfoFault, InfoKind};
 pub use info::{Info, MOST_CERTS, MOST_CRLS, MOST_SIGNERS, Signed};
 pub use kind::Kind;
-pub use laws::{fault_or_message, kinds_are_apart};
+pub use laws::{fault_or_message, kinds_are_apart, written_once};
 pub use signer::{Covered, Identifier, SignedAttributes, Signer};
 pub use writing::{write_attributes, write_certs, write_plain, write_signed};

@@ -1,12 +1,13 @@
 //! The writers of messages: plain ones, signed ones of one signer, and certificates alone.
 
-ghost use Rattle.std.specs.Prelude.{◌≡◌, ◌≢◌, ◌+◌, ◌%◌, ◌<◌, ℕ, List, [], ◌∷◌, drop, map, Some, IfOk};
+ghost use Rattle.std.specs.Prelude.{◌≡◌, ◌≢◌, ◌%◌, [], ◌∷◌, drop, map, Some, IfOk};
 ghost use Rattle.std.specs.List.{concat};
 ghost use Rattle.std.specs.Option.{option_copied};
 ghost use Rattle.sz_der.specs.Der.{Der};
 ghost use Rattle.sz_cms.specs.Kind.{identifier_of, IsWritten};
-ghost use Rattle.sz_cms.specs.Message.{InfoOf, IsAlgorithm, IsAttribute, IsChoicesField, IsContent, IsContentInfo, IsIssuerSerial, IsSigned, IsSigner, IsVersion, Plain, SignedData, Signer};
+ghost use Rattle.sz_cms.specs.Message.{InfoOf, IsAlgorithm, IsAttribute, IsContent, IsContentInfo, IsIssuerSerial, Plain, SignedData};
 ghost use Rattle.sz_cms.specs.Signature.{covered_of, DigestFits};
+ghost use Rattle.sz_cms.specs.Spelled.{alone_of, AreWrittenAttributes, AreWrittenCerts, content_of, IsListsField, IsSignedByOne, IsWrittenMessage, IsWrittenSigned, IsWrittenSigner, signed_version};
 ghost use Rattle.sz_cms.specs.Written.{AreAttributesOf, AreSequences, certs_signed, message_signed, NamesSigner, written_signer};
 
 use crate::identifier::{CONTENT_TYPE, DATA, HSS_LMS, MESSAGE_DIGEST, SHA_256, SIGNED_DATA};
@@ -31,7 +32,8 @@ pub fn write_plain(alloc: Global, kind: Kind<'_>, content: &[u8]) -> Result<Byte
 /// under the tag of SET.
 pub fn write_attributes(alloc: Global, kind: Kind<'_>, content: &[u8]) -> Result<Bytes, OutOfMemory>
     requires { IsWritten kind }
-    ensures { IfOk result (AreAttributesOf (identifier_of kind.entry) content.now) }
+    ensures written { IfOk result (AreWrittenAttributes (identifier_of kind.entry) content.now) }
+    ensures says { IfOk result (AreAttributesOf (identifier_of kind.entry) content.now) }
 {
     let type_value = item(alloc, OBJECT_IDENTIFIER, kind.identifier())?;
     let content_type = attribute(alloc, &CONTENT_TYPE, type_value.as_slice())?;
@@ -56,7 +58,9 @@ pub fn write_signed(
     requires certs { AreSequences MOST_CERTS certs.now }
     requires signer { NamesSigner issuer.now serial.now }
     requires attributes { AreAttributesOf (identifier_of kind) content.now attributes.now }
-    ensures written { IfOk result (λ bytes. InfoOf bytes (SignedData (message_signed (identifier_of kind.entry)
+    ensures written { IfOk result (IsWrittenMessage (content_of (identifier_of kind.entry) content.now certs.now)
+        issuer.now serial.now attributes.now signature.now) }
+    ensures says { IfOk result (λ bytes. InfoOf bytes (SignedData (message_signed (identifier_of kind.entry)
         content.now certs.now (written_signer (identifier_of kind.entry) content.now issuer.now serial.now
         attributes.now signature.now)))) }
     // The signature is over what was signed, and the digest that was signed is that of the content.
@@ -74,25 +78,10 @@ pub fn write_signed(
 pub fn write_certs(alloc: Global, certs: &Certs, crls: &Certs) -> Result<Bytes, OutOfMemory>
     requires certs { AreSequences MOST_CERTS certs.now }
     requires crls { AreSequences MOST_CRLS crls.now }
-    ensures { IfOk result (λ bytes. InfoOf bytes (SignedData (certs_signed certs.now crls.now))) }
+    ensures written { IfOk result (AreWrittenCerts certs.now crls.now) }
+    ensures says { IfOk result (λ bytes. InfoOf bytes (SignedData (certs_signed certs.now crls.now))) }
 {
-    let version = version(alloc, 1)?;
-    let none = item(alloc, SET, &[])?;
-    let content = encapsulated(alloc, &DATA, None)?;
-    let certs = choices(alloc, CONTEXT_CONSTRUCTED, certs)?;
-    let crls = lists(alloc, crls)?;
-    let signed = constructed(
-        alloc,
-        SEQUENCE,
-        &[
-            version.as_slice(),
-            none.as_slice(),
-            content.as_slice(),
-            certs.as_slice(),
-            crls.as_slice(),
-            none.as_slice(),
-        ],
-    )?;
+    let signed = certs_data(alloc, certs, crls)?;
     content_info(alloc, &SIGNED_DATA, signed.as_slice())
 }
 
@@ -113,9 +102,8 @@ fn signed_data(
     certs: &Certs,
     signer: &[u8],
 ) -> Result<Bytes, OutOfMemory>
-    requires { AreSequences MOST_CERTS certs.now }
-    ensures { IfOk result (λ bytes. (whole : Signer) → IsSigner whole signer.now
-        → IsSigned (message_signed (identifier_of kind.entry) content.now certs.now whole) bytes) }
+    requires { IsWritten kind }
+    ensures { IfOk result (IsSignedByOne signer.now (content_of (identifier_of kind.entry) content.now certs.now)) }
 {
     let version = version(alloc, version_of(kind))?;
     let digest_algorithm = algorithm(alloc, &SHA_256)?;
@@ -136,9 +124,33 @@ fn signed_data(
     )
 }
 
+// SignedData (RFC 5652 section 5.1) of certificates and revocation lists alone.
+fn certs_data(alloc: Global, certs: &Certs, crls: &Certs) -> Result<Bytes, OutOfMemory>
+    ensures { IfOk result (IsWrittenSigned [] [] (alone_of certs.now crls.now)) }
+{
+    let version = version(alloc, version_of(Kind::Data))?;
+    let none = item(alloc, SET, &[])?;
+    let content = encapsulated(alloc, &DATA, None)?;
+    let certs = choices(alloc, CONTEXT_CONSTRUCTED, certs)?;
+    let crls = lists(alloc, crls)?;
+    constructed(
+        alloc,
+        SEQUENCE,
+        &[
+            version.as_slice(),
+            none.as_slice(),
+            content.as_slice(),
+            certs.as_slice(),
+            crls.as_slice(),
+            none.as_slice(),
+        ],
+    )
+}
+
 // The version of signed data whose certificates and signers are of the plain forms (RFC 5652 section 5.1).
 fn version_of(kind: Kind<'_>) -> u8
-    ensures { result < 128 }
+    requires { IsWritten kind }
+    ensures { result ≡ signed_version (identifier_of kind.entry) }
 {
     match kind {
         Kind::Data => 1,
@@ -163,8 +175,7 @@ fn encapsulated(alloc: Global, kind: &[u8], content: Option<&[u8]>) -> Result<By
 
 // The field of revocation lists, or nothing where there are none.
 fn lists(alloc: Global, crls: &Certs) -> Result<Bytes, OutOfMemory>
-    requires { AreSequences MOST_CRLS crls.now }
-    ensures { IfOk result (IsChoicesField MOST_CRLS (CONTEXT_CONSTRUCTED + 1) crls.now) }
+    ensures { IfOk result (IsListsField crls.now) }
 {
     if crls.is_empty() {
         return Ok(Bytes::create(alloc));
@@ -175,8 +186,7 @@ fn lists(alloc: Global, crls: &Certs) -> Result<Bytes, OutOfMemory>
 // A field of whole items, one after another.
 fn choices(alloc: Global, tag: u8, items: &Certs) -> Result<Bytes, OutOfMemory>
     requires { tag % 32 ≢ 31 }
-    ensures { IfOk result (λ bytes. (most : ℕ) → AreSequences most items.now
-        → IsChoicesField most tag items.now bytes) }
+    ensures { IfOk result (Der tag (concat items.now)) }
 {
     let content = joined(alloc, items)?;
     item(alloc, tag, content.as_slice())
@@ -202,8 +212,7 @@ fn signer_info(
     signature: &[u8],
 ) -> Result<Bytes, OutOfMemory>
     requires { NamesSigner issuer.now serial.now }
-    ensures { IfOk result (λ bytes. (kind content : List ℕ) → AreAttributesOf kind content attributes.now
-        → IsSigner (written_signer kind content issuer.now serial.now attributes.now signature.now) bytes) }
+    ensures { IfOk result (IsWrittenSigner issuer.now serial.now attributes.now signature.now) }
 {
     let version = version(alloc, 1)?;
     let identifier = issuer_serial(alloc, issuer, serial)?;
@@ -262,8 +271,7 @@ fn algorithm(alloc: Global, identifier: &[u8]) -> Result<Bytes, OutOfMemory>
 
 // CMSVersion (RFC 5652 section 10.2.5).
 fn version(alloc: Global, number: u8) -> Result<Bytes, OutOfMemory>
-    requires { number < 128 }
-    ensures { IfOk result IsVersion }
+    ensures { IfOk result (Der INTEGER (number ∷ [])) }
 {
     item(alloc, INTEGER, &[number])
 }

@@ -9,7 +9,7 @@ abbrev pub place_of : ℕ → List ℕ → ℕ
 place_of end left = end - length left
 
 -- the item at the front is taken, and the bytes after it are left
-pub record Takes (end : ℕ) (old new : List ℕ) (tag : ℕ) (content whole : List ℕ) (after : ℕ) : Type 0 where
+pub record TakesItem (end : ℕ) (old new : List ℕ) (tag : ℕ) (content whole : List ℕ) (after : ℕ) : Type 0 where
   pub item : BeginsWith old tag content whole new
   pub ends : after ≡ place_of end new
 

@@ -2,7 +2,7 @@
 
 ghost use Rattle.std.specs.Prelude.{◌≡◌, ◌↔◌, ℕ, List, [], length, IsTrue, IfOk, IfErr, OnErr, IsOkAnd};
 ghost use Rattle.sz_der.specs.Items.{BeginsWith};
-ghost use Rattle.sz_der.specs.Reader.{place_of, Takes, IsFrontFault};
+ghost use Rattle.sz_der.specs.Reader.{place_of, TakesItem, IsFrontFault};
 
 use crate::{DerFault, Item, next};
 
@@ -53,10 +53,10 @@ impl<'a> DerReader<'a> {
         self.left.is_empty()
     }
 
-    /// Takes the next item. Where none is left that is the fault `Short`, at the end. A fault leaves the
+    /// TakesItem the next item. Where none is left that is the fault `Short`, at the end. A fault leaves the
     /// reader as it was.
     pub fn take_item(&mut self) -> Result<Item<'a>, DerFault>
-        ensures ok { IfOk result (λ item. Takes self.old.end self.old.left.now self.new.left.now
+        ensures ok { IfOk result (λ item. TakesItem self.old.end self.old.left.now self.new.left.now
             item.tag item.content.now item.whole.now item.after) }
         ensures only { (tag : ℕ) (content whole rest : List ℕ) → BeginsWith self.old.left.now tag content whole rest
             → IsOkAnd result (λ item. (item.tag ≡ tag) × (item.content.now ≡ content) × (item.whole.now ≡ whole)) }

@@ -1,7 +1,7 @@
 -- What contracts see of a disk in memory, and what its calls do.
-use Rattle.std.specs.Prelude.{◌≡◌, ◌⊎◌, ℕ, ◌+◌, min, Bool, true, false, if◌then◌else◌, List, [], ◌∷◌, ◌++◌, length, replicate, None, MatchBool}
+use Rattle.std.specs.Prelude.{◌≡◌, ◌⊎◌, ℕ, Bool, true, false, if◌then◌else◌, List, [], ◌∷◌, ◌++◌, length, replicate, None, MatchBool}
 use Rattle.std.proofs.Common.{get_or}
-use Rattle.sz_spec.specs.Cause.{last_count}
+use Rattle.sz_spec.specs.Cause.{risen}
 use Rattle.sz_disk.specs.Image.{part, patched}
 use Rattle.sz_disk.specs.Disk.{Seen}
 use Rattle.sz_disk.specs.Event.{unsynced, undone, seen_after}
@@ -63,7 +63,7 @@ powered_up disk image = record { bytes = image; events = []; plan = no_plan; fau
 
 -- the count of faults after a call: one more where it was refused, up to the end of the type
 abbrev pub counted_faults : ℕ → Bool → ℕ
-counted_faults faults refused = if refused then min (faults + 1) last_count else faults
+counted_faults faults refused = if refused then risen faults 1 else faults
 
 -- a call was counted, and a refused one as one fault, too
 pub record IsCounted (old new : Memory) (refused : Bool) : Type 0 where

@@ -1,7 +1,7 @@
 -- Which calls of a disk in memory fail.
-use Rattle.std.specs.Prelude.{◌≡◌, ◌⊎◌, ℕ, ◌+◌, ◌<◌, ◌≤◌, min, List, Some, Contains}
+use Rattle.std.specs.Prelude.{◌≡◌, ◌⊎◌, ℕ, ◌<◌, ◌≤◌, List, Some, Contains}
 use Rattle.std.specs.Option.{option_map_or}
-use Rattle.sz_spec.specs.Cause.{last_count}
+use Rattle.sz_spec.specs.Cause.{risen}
 use Rattle.sz_disk.specs.declared.plan.Plan.{Plan}
 use Rattle.sz_disk.specs.declared.plan.Cut.{Cut}
 use Rattle.sz_disk.specs.declared.plan.Fate.{Fate}
@@ -9,7 +9,7 @@ use Rattle.sz_disk.specs.declared.plan.Fate.TheVariants.{Runs, AtCut, Refused}
 
 -- the number of the next call
 abbrev pub next_call : Plan → ℕ
-next_call plan = min (plan.calls + 1) last_count
+next_call plan = risen plan.calls 1
 
 -- the plan after that call
 abbrev pub counted : Plan → Plan

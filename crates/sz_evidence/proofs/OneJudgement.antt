@@ -7,9 +7,9 @@ use Rattle.sz_base.specs.declared.moment.Moment.{Moment}
 use Rattle.sz_base.specs.declared.target.Target.{Target}
 use Rattle.sz_cms.proofs.Whole.{one_message}
 use Rattle.sz_cms.specs.Message.{Info, InfoOf, Plain, Signed, SignedData}
-use Rattle.sz_conveyed.specs.Conveyed.{ConveyedOf}
-use Rattle.sz_conveyed.specs.declared.conveyed.Conveyed.{Conveyed}
-use Rattle.sz_conveyed.specs.declared.conveyed.Conveyed.TheVariants as conveyed
+use Rattle.sz_artifacts.specs.Conveyed.{ConveyedOf}
+use Rattle.sz_artifacts.specs.declared.conveyed.Conveyed.{Conveyed}
+use Rattle.sz_artifacts.specs.declared.conveyed.Conveyed.TheVariants as conveyed
 use Rattle.sz_evidence.specs.Authorised.{Authenticated, IsInformation, IsSignedInformation}
 use Rattle.sz_evidence.specs.Judgement.{Applies, First, information_rules, IsRefusedFor, IsUnsigned, Judgement, kind_in, kind_reason, OtherKind, owner_rules, rules_of, voucher_rules}
 use Rattle.sz_evidence.specs.declared.judgement.Judged.{Judged}

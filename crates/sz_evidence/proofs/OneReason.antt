@@ -6,15 +6,15 @@ use Rattle.sz_base.specs.declared.evidence.Evidence.{Evidence}
 use Rattle.sz_base.specs.declared.identity.Identity.{Identity}
 use Rattle.sz_base.specs.declared.moment.Moment.{Moment}
 use Rattle.sz_chain.proofs.Refusals.{one_fault}
-use Rattle.sz_chain.specs.SignedBy.{IsRefused}
+use Rattle.sz_chain.specs.SignedBy.{IsUnsignedFor}
 use Rattle.sz_chain.specs.declared.fault.ChainFault.{ChainFault}
 use Rattle.sz_cms.proofs.Whole.{one_message}
 use Rattle.sz_cms.specs.Message.{Info, Plain, Signed, SignedData}
-use Rattle.sz_conveyed.specs.Conveyed.{conveyed_fault}
+use Rattle.sz_artifacts.specs.Conveyed.{conveyed_fault}
 use Rattle.sz_json.specs.declared.name.Name.{Name}
-use Rattle.sz_voucher.specs.Judgement.{judgement}
-use Rattle.sz_voucher.specs.Voucher.{voucher_fault}
-use Rattle.sz_voucher.specs.declared.voucher.Voucher.{Voucher}
+use Rattle.sz_artifacts.specs.Vouching.{judgement}
+use Rattle.sz_artifacts.specs.Voucher.{voucher_fault}
+use Rattle.sz_artifacts.specs.declared.voucher.Voucher.{Voucher}
 use Rattle.sz_evidence.specs.Authorised.{asked, certs_where, crls_where}
 use Rattle.sz_evidence.specs.Judgement.{AtFault, First, InformationAtFault, information_rules, IsRefusedFor, OtherKind, owner_rules, rules_of, UnfitVoucher, Unreadable, UnreadableWhere, UnsignedInformation, UnsignedVoucher, VoucherAtFault, voucher_reason, voucher_rules}
 use Rattle.sz_evidence.specs.declared.reason.Artifact.{Artifact}
@@ -42,7 +42,7 @@ other_kind_one info found other is same = same_Some found other (sym is ∙ same
 unsigned_voucher_one : (identity : Identity) (when : Moment) (ov : Option (List ℕ)) → GivesOne (UnsignedVoucher identity when ov)
 unsigned_voucher_one identity when ov found other is same =
     let e = one_voucher_message ov same.signed is.signed same.is_message is.is_message in
-    let refused = subst (λ (signed : Signed). IsRefused signed signed.certs identity.anchors None when.time.0 same.fault) e same.refused in
+    let refused = subst (λ (signed : Signed). IsUnsignedFor signed signed.certs identity.anchors None when.time.0 same.fault) e same.refused in
     let f = one_fault is.signed is.signed.certs identity.anchors None when.time.0 is.fault same.fault is.refused refused in
     is.gives ∙ ap (λ (fault : ChainFault). reason.NoChain artifact.Voucher fault) f ∙ sym same.gives
 

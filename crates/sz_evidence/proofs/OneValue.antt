@@ -6,17 +6,18 @@ use Rattle.sz_base.specs.declared.identity.Identity.{Identity}
 use Rattle.sz_base.specs.declared.moment.Moment.{Moment}
 use Rattle.sz_cms.proofs.Whole.{one_message}
 use Rattle.sz_cms.specs.Message.{InfoOf, Plain, Signed, SignedData}
-use Rattle.sz_conveyed.proofs.Faultless.{conveyed_fault_none}
-use Rattle.sz_conveyed.proofs.OneReading.{one_conveyed}
-use Rattle.sz_conveyed.specs.Conveyed.{conveyed_fault, ConveyedOf, IsConveyed}
-use Rattle.sz_conveyed.specs.declared.conveyed.Conveyed.{Conveyed}
+use Rattle.sz_artifacts.proofs.Faultless.{conveyed_fault_none}
+use Rattle.sz_artifacts.proofs.OneInformation.{one_conveyed}
+use Rattle.sz_artifacts.specs.Conveyed.{conveyed_fault, ConveyedOf, IsConveyed}
+use Rattle.sz_artifacts.specs.declared.conveyed.Conveyed.{Conveyed}
+use Rattle.sz_json.specs.Bounded.{IsBoundedJson}
 use Rattle.sz_json.specs.Fault as json
 use Rattle.sz_json.specs.Json.{IsJson}
 use Rattle.sz_json.specs.declared.name.Name.{Name}
-use Rattle.sz_voucher.proofs.OneReading.{one_voucher, voucher_fault_none}
-use Rattle.sz_voucher.specs.Judgement.{Fits}
-use Rattle.sz_voucher.specs.Voucher.{IsVoucher, voucher_fault, VoucherOf}
-use Rattle.sz_voucher.specs.declared.voucher.Voucher.{Voucher}
+use Rattle.sz_artifacts.proofs.OneVoucher.{one_voucher, voucher_fault_none}
+use Rattle.sz_artifacts.specs.Vouching.{VouchesFor}
+use Rattle.sz_artifacts.specs.Voucher.{IsVoucher, voucher_fault, VoucherOf}
+use Rattle.sz_artifacts.specs.declared.voucher.Voucher.{Voucher}
 use Rattle.sz_evidence.specs.Authorised.{CarriesVoucher, HasVoucher, IsOwner, IsSignedVoucher, IsVoucherMessage, VoucherOk}
 
 pub one_value : (bytes : List ℕ) (value other : Data) → IsJson bytes value → IsJson bytes other → value ≡ other
@@ -24,31 +25,31 @@ one_value bytes value other is same = same_Some value other (sym is.1 ∙ same.1
 
 -- ---- faults of texts
 
-pub one_name : (first_fault : Data → Option Name) (bytes : List ℕ) (name other : Name) → json.IsRefused first_fault bytes name →
-    json.IsRefused first_fault bytes other → name ≡ other
+pub one_name : (first_fault : Data → Option Name) (bytes : List ℕ) (name other : Name) → json.HasTextFault first_fault bytes name →
+    json.HasTextFault first_fault bytes other → name ≡ other
 one_name first_fault bytes name other (inl is) (inl same) = is.0 ∙ sym same.0
 one_name first_fault bytes name other (inl is) (inr same) = absurd (is.1 same.0 same.1)
 one_name first_fault bytes name other (inr is) (inl same) = absurd (same.1 is.0 is.1)
 one_name first_fault bytes name other (inr is) (inr same) =
-    let e = one_value bytes is.0 same.0 is.1 same.1 in
+    let e = one_value bytes is.0 same.0 is.1.json same.1.json in
     same_Some name other (sym is.2 ∙ ap first_fault e ∙ same.2)
 
 -- a text whose value has no fault is not at fault
-pub faultless : (first_fault : Data → Option Name) (bytes : List ℕ) (value : Data) (name : Name) → IsJson bytes value → first_fault value ≡ None →
-    json.IsRefused first_fault bytes name → ⊥
+pub faultless : (first_fault : Data → Option Name) (bytes : List ℕ) (value : Data) (name : Name) → IsBoundedJson bytes value → first_fault value ≡ None →
+    json.HasTextFault first_fault bytes name → ⊥
 faultless first_fault bytes value name is none (inl refused) = refused.1 value is
 faultless first_fault bytes value name is none (inr refused) =
-    let e = one_value bytes value refused.0 is refused.1 in
+    let e = one_value bytes value refused.0 is.json refused.1.json in
     let same : first_fault value ≡ Some name = ap first_fault e ∙ refused.2 in
     let apart : None ≡ Some name = sym none ∙ same in
     cc
 
-pub voucher_faultless : (content : List ℕ) (voucher : Voucher) (name : Name) → VoucherOf content voucher → json.IsRefused voucher_fault content name → ⊥
+pub voucher_faultless : (content : List ℕ) (voucher : Voucher) (name : Name) → VoucherOf content voucher → json.HasTextFault voucher_fault content name → ⊥
 voucher_faultless content voucher name is refused =
     faultless voucher_fault content is.0 name is.1 (voucher_fault_none is.0 voucher is.2) refused
 
 pub conveyed_faultless : (content : List ℕ) (information : Conveyed) (name : Name) → ConveyedOf content information →
-    json.IsRefused conveyed_fault content name → ⊥
+    json.HasTextFault conveyed_fault content name → ⊥
 conveyed_faultless content information name is refused =
     faultless conveyed_fault content is.0 name is.1 (conveyed_fault_none is.0 information is.2) refused
 
@@ -79,7 +80,7 @@ one_content ov identity when content other is same =
 
 pub one_voucher_of : (content : List ℕ) (voucher other : Voucher) → VoucherOf content voucher → VoucherOf content other → voucher ≡ other
 one_voucher_of content voucher other is same =
-    let e = one_value content same.0 is.0 same.1 is.1 in
+    let e = one_value content same.0 is.0 same.1.json is.1.json in
     one_voucher is.0 voucher other is.2 (subst (λ (value : Data). IsVoucher value other) e same.2)
 
 pub one_has_voucher : (ov : Option (List ℕ)) (identity : Identity) (when : Moment) (voucher other : Voucher) → HasVoucher ov identity when voucher →
@@ -102,7 +103,7 @@ one_owner (Some bytes) (Some owner) (Some other) is same = ap Some (one_signed_d
 
 pub one_conveyed_of : (content : List ℕ) (information other : Conveyed) → ConveyedOf content information → ConveyedOf content other → information ≡ other
 one_conveyed_of content information other is same =
-    let e = one_value content same.0 is.0 same.1 is.1 in
+    let e = one_value content same.0 is.0 same.1.json is.1.json in
     one_conveyed is.0 information other is.2 (subst (λ (value : Data). IsConveyed value other) e same.2)
 
 -- the voucher that is carried is the one that is right
@@ -115,7 +116,7 @@ carried_voucher ov identity when voucher carried is carries =
     one_voucher_of is.content voucher carried is.is_voucher (subst (λ (content : List ℕ). VoucherOf content carried) f carries.is_voucher)
 
 pub carried_fits : (ov : Option (List ℕ)) (identity : Identity) (when : Moment) (voucher carried : Voucher) → VoucherOk ov identity when voucher →
-    CarriesVoucher ov carried → Fits carried identity.serial when
+    CarriesVoucher ov carried → VouchesFor carried identity.serial when
 carried_fits ov identity when voucher carried ok carries =
     let e = carried_voucher ov identity when voucher carried ok.has_voucher carries in
-    subst (λ (v : Voucher). Fits v identity.serial when) e ok.fits
+    subst (λ (v : Voucher). VouchesFor v identity.serial when) e ok.fits

@@ -7,17 +7,17 @@ use Rattle.sz_base.specs.declared.identity.Identity.{Identity}
 use Rattle.sz_base.specs.declared.moment.Moment.{Moment}
 use Rattle.sz_base.specs.declared.target.Target.{Target}
 use Rattle.sz_chain.proofs.Refusals.{not_both}
-use Rattle.sz_chain.specs.SignedBy.{IsRefused}
+use Rattle.sz_chain.specs.SignedBy.{IsUnsignedFor}
 use Rattle.sz_cms.proofs.Whole.{info_clear, one_message}
 use Rattle.sz_cms.specs.Message.{Info, InfoOf, Signed, SignedData}
 use Rattle.sz_cms.specs.MessageFault.{Fault, info_fault}
-use Rattle.sz_conveyed.specs.Conveyed.{ConveyedOf, has_onboarding}
-use Rattle.sz_conveyed.specs.declared.conveyed.Conveyed.{Conveyed}
-use Rattle.sz_conveyed.specs.declared.conveyed.Conveyed.TheVariants as conveyed
-use Rattle.sz_voucher.proofs.Fitting.{fitting}
-use Rattle.sz_voucher.specs.Judgement.{Fits, judgement}
-use Rattle.sz_voucher.specs.Voucher.{VoucherOf}
-use Rattle.sz_voucher.specs.declared.voucher.Voucher.{Voucher}
+use Rattle.sz_artifacts.specs.Conveyed.{ConveyedOf, has_onboarding}
+use Rattle.sz_artifacts.specs.declared.conveyed.Conveyed.{Conveyed}
+use Rattle.sz_artifacts.specs.declared.conveyed.Conveyed.TheVariants as conveyed
+use Rattle.sz_artifacts.proofs.Fitting.{fitting}
+use Rattle.sz_artifacts.specs.Vouching.{VouchesFor, judgement}
+use Rattle.sz_artifacts.specs.Voucher.{VoucherOf}
+use Rattle.sz_artifacts.specs.declared.voucher.Voucher.{Voucher}
 use Rattle.sz_x509.specs.Certificate.{Certificate, CertOf}
 use Rattle.sz_evidence.specs.Authorised.{asked, certs_where, crls_where, HasVoucher, IsOwner, IsSignedInformation, IsSignedVoucher, IsVoucherMessage, VoucherOk}
 use Rattle.sz_evidence.specs.Judgement.{Applies, InformationAtFault, information_rules, IsVoucherInfo, message_reason, NoVoucher, OtherVoucher, owner_rules, PinsNone, PlainOwner, plain_rules, UnfitVoucher, Unreadable, UnreadableWhere, UnsignedInformation, UnsignedVoucher, VoucherAtFault, voucher_rules}
@@ -59,7 +59,7 @@ pub is_signed_voucher : (identity : Identity) (when : Moment) (ov : Option (List
 is_signed_voucher identity when ov content is (found, refused) =
     let e = one_voucher_message ov refused.signed is.signed refused.is_message is.is_message in
     not_both is.signed is.signed.certs identity.anchors None when.time.0 refused.fault content
-    (subst (λ (signed : Signed). IsRefused signed signed.certs identity.anchors None when.time.0 refused.fault) e refused.refused) is.signed_by
+    (subst (λ (signed : Signed). IsUnsignedFor signed signed.certs identity.anchors None when.time.0 refused.fault) e refused.refused) is.signed_by
 
 pub has_members : (identity : Identity) (when : Moment) (ov : Option (List ℕ)) (voucher : Voucher) → HasVoucher ov identity when voucher →
     Applies (VoucherAtFault identity when ov) → ⊥
@@ -69,7 +69,7 @@ has_members identity when ov voucher is (found, refused) =
     refused.at_fault.1
 
 pub is_fit : (identity : Identity) (when : Moment) (ov : Option (List ℕ)) (voucher : Voucher) → HasVoucher ov identity when voucher →
-    Fits voucher identity.serial when → Applies (UnfitVoucher identity when ov) → ⊥
+    VouchesFor voucher identity.serial when → Applies (UnfitVoucher identity when ov) → ⊥
 is_fit identity when ov voucher is fits (found, refused) =
     let e = one_has_voucher ov identity when refused.voucher voucher refused.has_voucher is in
     let apart : Ok tt ≡ Err refused.fault = sym (fitting voucher identity.serial when fits) ∙ ap (λ (v : Voucher). judgement v identity.serial when) (sym e)
@@ -129,14 +129,14 @@ right_owner oc owner is = (owner_reads oc owner is, (owner_signed oc owner is, t
 module _ (identity : Identity) (when : Moment) (evidence : Evidence) (signed : Signed) (voucher : Voucher) (owner : Option Signed)
     (has_voucher : HasVoucher evidence.ov identity when voucher) (is_owner : IsOwner evidence.oc owner) where
   pub refused_here : (found : Reason) (refused : UnsignedInformation identity when evidence signed found) →
-      IsRefused signed (signed.certs ++ certs_where owner) (voucher.pinned ∷ []) (asked voucher.revocation (signed.crls ++ crls_where owner)) when.time.0
+      IsUnsignedFor signed (signed.certs ++ certs_where owner) (voucher.pinned ∷ []) (asked voucher.revocation (signed.crls ++ crls_where owner)) when.time.0
       refused.fault
   refused_here found refused =
       let e = one_has_voucher evidence.ov identity when refused.voucher voucher refused.has_voucher has_voucher in
       let f = one_owner evidence.oc refused.owner owner refused.is_owner is_owner in
-      let by_voucher = subst (λ (v : Voucher). IsRefused signed (signed.certs ++ certs_where refused.owner) (v.pinned ∷ [])
+      let by_voucher = subst (λ (v : Voucher). IsUnsignedFor signed (signed.certs ++ certs_where refused.owner) (v.pinned ∷ [])
       (asked v.revocation (signed.crls ++ crls_where refused.owner)) when.time.0 refused.fault) e refused.refused in
-      subst (λ (o : Option Signed). IsRefused signed (signed.certs ++ certs_where o) (voucher.pinned ∷ [])
+      subst (λ (o : Option Signed). IsUnsignedFor signed (signed.certs ++ certs_where o) (voucher.pinned ∷ [])
       (asked voucher.revocation (signed.crls ++ crls_where o)) when.time.0 refused.fault) f by_voucher
 
   pub signed_here : (other : Voucher) (other_owner : Option Signed) (content : List ℕ) → HasVoucher evidence.ov identity when other →
@@ -169,7 +169,7 @@ module _ (identity : Identity) (when : Moment) (evidence : Evidence) (signed : S
 pub right_redirect : (content : List ℕ) (targets : List Target) → ConveyedOf content (conveyed.Redirect targets) → NoneApplies (plain_rules content)
 right_redirect content targets is = (
   λ (found, ((value, is_value, onboarding), gives)).
-      let e = one_value content value is.0 is_value is.1 in
+      let e = one_value content value is.0 is_value.json is.1.json in
       let apart : Some true ≡ Some false = sym onboarding ∙ ap has_onboarding e ∙ is.2.0 in
       cc,
   (λ (found, (name, refused, gives)). conveyed_faultless content (conveyed.Redirect targets) name is refused, tt),

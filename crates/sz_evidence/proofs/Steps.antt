@@ -17,17 +17,17 @@ use Rattle.sz_cms.specs.declared.info.Info.{Info as TheInfo}
 use Rattle.sz_cms.specs.declared.info.Info.TheVariants as the
 use Rattle.sz_cms.specs.declared.info.Signed.{Signed as TheSigned}
 use Rattle.sz_cms.specs.declared.kind.Kind.{Kind}
-use Rattle.sz_conveyed.specs.Conveyed.{conveyed_fault, ConveyedOf, fault_where, has_onboarding, top_fault}
-use Rattle.sz_conveyed.specs.declared.conveyed.Conveyed.{Conveyed}
-use Rattle.sz_json.specs.Fault.{fault_of, IsRefused, IsTextFault}
+use Rattle.sz_artifacts.specs.Conveyed.{conveyed_fault, ConveyedOf, fault_where, has_onboarding, top_fault}
+use Rattle.sz_artifacts.specs.declared.conveyed.Conveyed.{Conveyed}
+use Rattle.sz_json.specs.Fault.{fault_of, HasTextFault, IsTextFault}
 use Rattle.sz_json.specs.Member.{or_fault}
 use Rattle.sz_json.specs.declared.name.Name.TheVariants as theName
 use Rattle.sz_json.specs.declared.fault.JsonFault.{JsonFault}
 use Rattle.sz_json.specs.declared.fault.JsonFault.TheVariants as json
 use Rattle.sz_json.specs.declared.name.Name.{Name}
-use Rattle.sz_voucher.specs.Judgement.{Fits}
-use Rattle.sz_voucher.specs.Voucher.{voucher_fault, VoucherOf}
-use Rattle.sz_voucher.specs.declared.voucher.Voucher.{Voucher}
+use Rattle.sz_artifacts.specs.Vouching.{VouchesFor}
+use Rattle.sz_artifacts.specs.Voucher.{voucher_fault, VoucherOf}
+use Rattle.sz_artifacts.specs.declared.voucher.Voucher.{Voucher}
 use Rattle.sz_x509.specs.Certificate.{Certificate, CertOf}
 use Rattle.sz_evidence.specs.Authorised.{Authenticated, HasVoucher, IsInformation, IsOwner, IsSignedInformation, IsSignedVoucher, IsVoucherMessage, VoucherOk}
 use Rattle.sz_evidence.specs.Judgement.{Applies, AtFault, First, information_rules, IsRefusedFor, IsVoucherInfo, kind_in, PlainOnboarding, owner_rules, PinsNone, plain_rules, Rule, rules_of, UnfitVoucher, VoucherAtFault, voucher_rules}
@@ -75,16 +75,16 @@ none_fault : (value : Data) (named : Option Bool) → named ≡ None → fault_w
 none_fault value None none = refl
 none_fault value (Some found) none = cc
 
-at_top : (content : List ℕ) (name : Name) → IsRefused top_fault content name → IsRefused conveyed_fault content name
+at_top : (content : List ℕ) (name : Name) → HasTextFault top_fault content name → HasTextFault conveyed_fault content name
 at_top content name (inl is) = inl is
 at_top content name (inr is) =
     let top = top_name is.0 (has_onboarding is.0) name is.2 in
     inr (is.0, is.1, none_fault is.0 (has_onboarding is.0) top.0 ∙ ap Some (sym top.1))
 
-no_onboarding : (content : List ℕ) (name : Name) → IsRefused top_fault content name → Applies (PlainOnboarding content) → ⊥
+no_onboarding : (content : List ℕ) (name : Name) → HasTextFault top_fault content name → Applies (PlainOnboarding content) → ⊥
 no_onboarding content name (inl is) (found, ((value, is_value, onboarding), gives)) = is.1 value is_value
 no_onboarding content name (inr is) (found, ((value, is_value, onboarding), gives)) =
-    let e = one_value content value is.0 is_value is.1 in
+    let e = one_value content value is.0 is_value.json is.1.json in
     let top = top_name is.0 (has_onboarding is.0) name is.2 in
     let apart : Some true ≡ None = sym onboarding ∙ ap has_onboarding e ∙ top.0 in
     cc
@@ -138,7 +138,7 @@ module _ (identity : Identity) (when : Moment) (ov : Option (List ℕ)) (signed 
             inl (record { voucher = voucher; fault = fault; has_voucher = has; unfit = unfit; gives = gives }),
           ))
 
-      pub voucher_pins_none : (found : Reason) → Fits voucher identity.serial when → PinsNoCertificate voucher found →
+      pub voucher_pins_none : (found : Reason) → VouchesFor voucher identity.serial when → PinsNoCertificate voucher found →
           First (voucher_rules identity when ov) found
       voucher_pins_none found fits (no_cert, gives) =
           after_signature found (inr (
@@ -149,7 +149,7 @@ module _ (identity : Identity) (when : Moment) (ov : Option (List ℕ)) (signed 
             ),
           ))
 
-      pub voucher_ok : (cert : Certificate) → Fits voucher identity.serial when → CertOf voucher.pinned cert → VoucherOk ov identity when voucher
+      pub voucher_ok : (cert : Certificate) → VouchesFor voucher identity.serial when → CertOf voucher.pinned cert → VoucherOk ov identity when voucher
       voucher_ok cert fits pins = record { has_voucher = has; fits = fits; cert = cert; pins = pins }
 
 -- ---- what was read

@@ -7,13 +7,13 @@ use Rattle.sz_base.specs.declared.moment.Moment.{Moment}
 use Rattle.sz_chain.specs.SignedBy.{SignedBy}
 use Rattle.sz_cms.specs.Message.{InfoOf, Signed, SignedData}
 use Rattle.sz_cms.specs.declared.identifier.TheConstants.{CONVEYED_JSON, DATA, VOUCHER}
-use Rattle.sz_conveyed.specs.Conveyed.{ConveyedOf}
-use Rattle.sz_conveyed.specs.declared.conveyed.Conveyed.{Conveyed}
-use Rattle.sz_conveyed.specs.declared.conveyed.Conveyed.TheVariants as conveyed
-use Rattle.sz_conveyed.specs.declared.onboarding.Onboarding.{Onboarding}
-use Rattle.sz_voucher.specs.Judgement.{Fits}
-use Rattle.sz_voucher.specs.Voucher.{VoucherOf}
-use Rattle.sz_voucher.specs.declared.voucher.Voucher.{Voucher}
+use Rattle.sz_artifacts.specs.Conveyed.{ConveyedOf}
+use Rattle.sz_artifacts.specs.declared.conveyed.Conveyed.{Conveyed}
+use Rattle.sz_artifacts.specs.declared.conveyed.Conveyed.TheVariants as conveyed
+use Rattle.sz_artifacts.specs.declared.conveyed.onboarding.Onboarding.{Onboarding}
+use Rattle.sz_artifacts.specs.Vouching.{VouchesFor}
+use Rattle.sz_artifacts.specs.Voucher.{VoucherOf}
+use Rattle.sz_artifacts.specs.declared.voucher.Voucher.{Voucher}
 use Rattle.sz_x509.specs.Certificate.{Certificate, CertOf}
 
 -- ---- the voucher
@@ -50,7 +50,7 @@ pub record HasVoucher (ov : Option (List ℕ)) (identity : Identity) (when : Mom
 -- wishes for revocation checks is its own member.
 pub record VoucherOk (ov : Option (List ℕ)) (identity : Identity) (when : Moment) (voucher : Voucher) : Type 0 where
   pub has_voucher : HasVoucher ov identity when voucher
-  pub fits : Fits voucher identity.serial when
+  pub fits : VouchesFor voucher identity.serial when
   pub cert : Certificate
   pub pins : CertOf voucher.pinned cert
 

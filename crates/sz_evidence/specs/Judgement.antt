@@ -6,24 +6,24 @@ use Rattle.sz_base.specs.declared.evidence.Evidence.{Evidence}
 use Rattle.sz_base.specs.declared.identity.Identity.{Identity}
 use Rattle.sz_base.specs.declared.moment.Moment.{Moment}
 use Rattle.sz_base.specs.declared.target.Target.{Target}
-use Rattle.sz_chain.specs.SignedBy.{IsRefused}
+use Rattle.sz_chain.specs.SignedBy.{IsUnsignedFor}
 use Rattle.sz_chain.specs.declared.fault.ChainFault.{ChainFault}
 use Rattle.sz_cms.specs.Message.{Info, InfoOf, Plain, Signed, SignedData}
 use Rattle.sz_cms.specs.MessageFault.{Fault, info_fault}
 use Rattle.sz_cms.specs.declared.fault.InfoKind.{InfoKind}
 use Rattle.sz_cms.specs.declared.fault.InfoKind.TheVariants as kind
 use Rattle.sz_cms.specs.declared.identifier.TheConstants.{CONVEYED_JSON, CONVEYED_XML, DATA, ENVELOPED_DATA, VOUCHER}
-use Rattle.sz_conveyed.specs.Conveyed.{conveyed_fault, ConveyedOf, has_onboarding}
-use Rattle.sz_conveyed.specs.declared.conveyed.Conveyed.TheVariants as conveyed
+use Rattle.sz_artifacts.specs.Conveyed.{conveyed_fault, ConveyedOf, has_onboarding}
+use Rattle.sz_artifacts.specs.declared.conveyed.Conveyed.TheVariants as conveyed
+use Rattle.sz_json.specs.Bounded.{IsBoundedJson}
 use Rattle.sz_json.specs.Fault as json
-use Rattle.sz_json.specs.Json.{IsJson}
 use Rattle.sz_json.specs.declared.name.Name.{Name}
 use Rattle.sz_json.specs.declared.name.Name.TheVariants as name
-use Rattle.sz_voucher.specs.Judgement.{judgement}
-use Rattle.sz_voucher.specs.Voucher.{voucher_fault}
-use Rattle.sz_voucher.specs.declared.judgement.VoucherFault.{VoucherFault}
-use Rattle.sz_voucher.specs.declared.judgement.VoucherFault.TheVariants as voucher_fault
-use Rattle.sz_voucher.specs.declared.voucher.Voucher.{Voucher}
+use Rattle.sz_artifacts.specs.Vouching.{judgement}
+use Rattle.sz_artifacts.specs.Voucher.{voucher_fault}
+use Rattle.sz_artifacts.specs.declared.voucher.judgement.VoucherFault.{VoucherFault}
+use Rattle.sz_artifacts.specs.declared.voucher.judgement.VoucherFault.TheVariants as voucher_fault
+use Rattle.sz_artifacts.specs.declared.voucher.Voucher.{Voucher}
 use Rattle.sz_x509.specs.Certificate.{Certificate, CertOf}
 use Rattle.sz_evidence.specs.Authorised.{asked, Authenticated, certs_where, crls_where, HasVoucher, IsInformation, IsOwner, IsSignedInformation, IsSignedVoucher, IsVoucherMessage}
 use Rattle.sz_evidence.specs.declared.judgement.Judged.{Judged}
@@ -90,12 +90,12 @@ OtherKind info found = kind_reason (kind_in info) ≡ Some found
 -- it has onboarding information, whose parts are not looked at
 abbrev pub PlainOnboarding : List ℕ → Rule
 PlainOnboarding content found =
-    ((value : Data) × IsJson content value × (has_onboarding value ≡ Some true)) × (found ≡ reason.Unsigned)
+    ((value : Data) × IsBoundedJson content value × (has_onboarding value ≡ Some true)) × (found ≡ reason.Unsigned)
 
 -- it has a member at fault
 abbrev pub AtFault : (Data → Option Name) → List ℕ → Rule
 AtFault first_fault content found =
-    (name : Name) × json.IsRefused first_fault content name × (found ≡ reason.Member name)
+    (name : Name) × json.HasTextFault first_fault content name × (found ≡ reason.Member name)
 
 abbrev pub plain_rules : List ℕ → List Rule
 plain_rules content = PlainOnboarding content ∷ AtFault conveyed_fault content ∷ []
@@ -127,7 +127,7 @@ pub record UnsignedVoucher (identity : Identity) (when : Moment) (ov : Option (L
   pub signed : Signed
   pub fault : ChainFault
   pub is_message : IsVoucherMessage ov signed
-  pub refused : IsRefused signed signed.certs identity.anchors None when.time.0 fault
+  pub refused : IsUnsignedFor signed signed.certs identity.anchors None when.time.0 fault
   pub gives : found ≡ reason.NoChain artifact.Voucher fault
 
 -- it has a member at fault
@@ -183,7 +183,7 @@ pub record UnsignedInformation (identity : Identity) (when : Moment) (evidence :
   pub fault : ChainFault
   pub has_voucher : HasVoucher evidence.ov identity when voucher
   pub is_owner : IsOwner evidence.oc owner
-  pub refused : IsRefused signed (signed.certs ++ certs_where owner) (voucher.pinned ∷ [])
+  pub refused : IsUnsignedFor signed (signed.certs ++ certs_where owner) (voucher.pinned ∷ [])
       (asked voucher.revocation (signed.crls ++ crls_where owner)) when.time.0 fault
   pub gives : found ≡ reason.NoChain artifact.Conveyed fault
 

@@ -3,19 +3,19 @@ use Rattle.std.specs.Prelude.{◌≡◌, ℕ, ⊤, List, [], ◌∷◌, ◌++◌
 use Rattle.sz_base.specs.declared.identity.Identity.{Identity}
 use Rattle.sz_base.specs.declared.moment.Moment.{Moment}
 use Rattle.sz_base.specs.declared.moment.Seconds.{Seconds}
-use Rattle.sz_chain.specs.SignedBy.{IsRefused}
+use Rattle.sz_chain.specs.SignedBy.{IsUnsignedFor}
 use Rattle.sz_chain.specs.declared.fault.ChainFault.{ChainFault}
 use Rattle.sz_cms.specs.Message as message
 use Rattle.sz_cms.specs.View.{signed_of}
 use Rattle.sz_cms.specs.declared.info.Signed.{Signed}
-use Rattle.sz_conveyed.specs.Conveyed.{ConveyedOf}
-use Rattle.sz_conveyed.specs.declared.conveyed.Conveyed.TheVariants as conveyed
+use Rattle.sz_artifacts.specs.Conveyed.{ConveyedOf}
+use Rattle.sz_artifacts.specs.declared.conveyed.Conveyed.TheVariants as conveyed
 use Rattle.sz_json.specs.declared.fault.JsonFault.{JsonFault}
 use Rattle.sz_json.specs.declared.fault.JsonFault.TheVariants as json
 use Rattle.sz_json.specs.declared.name.Name.TheVariants as name
-use Rattle.sz_voucher.specs.Judgement.{judgement}
-use Rattle.sz_voucher.specs.declared.judgement.VoucherFault.{VoucherFault}
-use Rattle.sz_voucher.specs.declared.voucher.Voucher.{Voucher}
+use Rattle.sz_artifacts.specs.Vouching.{judgement}
+use Rattle.sz_artifacts.specs.declared.voucher.judgement.VoucherFault.{VoucherFault}
+use Rattle.sz_artifacts.specs.declared.voucher.Voucher.{Voucher}
 use Rattle.sz_x509.specs.Certificate.{Certificate, CertOf}
 use Rattle.sz_evidence.specs.Authorised.{asked, certs_where, crls_where}
 use Rattle.sz_evidence.specs.Judgement.{NoVoucher, OtherVoucher, Rule, UnreadableWhere, voucher_reason}
@@ -54,7 +54,7 @@ message_rules ov = NoVoucher ov ∷ UnreadableWhere artifact.Voucher ov ∷ Othe
 
 abbrev pub RefusesVoucher : message.Signed → Identity → Seconds → Rule
 RefusesVoucher signed identity when found =
-    (fault : ChainFault) × IsRefused signed signed.certs identity.anchors None when.0 fault
+    (fault : ChainFault) × IsUnsignedFor signed signed.certs identity.anchors None when.0 fault
     × (found ≡ reason.NoChain artifact.Voucher fault)
 
 abbrev pub IsUnfit : Voucher → Identity → Moment → Rule
@@ -67,6 +67,6 @@ PinsNoCertificate voucher found =
 
 abbrev pub RefusesInformation : message.Signed → Option message.Signed → Voucher → Moment → Rule
 RefusesInformation signed owner voucher when found =
-    (fault : ChainFault) × IsRefused signed (signed.certs ++ certs_where owner) (voucher.pinned ∷ [])
+    (fault : ChainFault) × IsUnsignedFor signed (signed.certs ++ certs_where owner) (voucher.pinned ∷ [])
     (asked voucher.revocation (signed.crls ++ crls_where owner)) when.time.0 fault
     × (found ≡ reason.NoChain artifact.Conveyed fault)

@@ -1,6 +1,6 @@
 //! The reader of an identity file.
 
-ghost use Rattle.std.specs.Prelude.{◌≡◌, ◌≤◌, ◌↔◌, List, ℕ, IsTrue, IfOk, IfErr};
+ghost use Rattle.std.specs.Prelude.{◌≡◌, ◌≤◌, ◌↔◌, IsTrue, IfOk, IfErr};
 ghost use Rattle.serde_json.specs.View.{items_view, view};
 ghost use Rattle.sz_base.specs.Identity.{IsWhole, most_anchors};
 ghost use Rattle.sz_base.specs.Serial.{IsSerial};

@@ -12,12 +12,11 @@ use crate::strings::{bag_of, certs_of, crls_of, if_asked};
 use crate::vouched::right_voucher;
 use crate::{Artifact, Reason};
 use std::alloc::Global;
+use sz_artifacts::{Conveyed, Onboarding, Voucher, is_onboarding};
 use sz_base::{Evidence, Identity, Moment, Targets};
 use sz_chain::signed_by;
 use sz_cms::{Info, Signed};
-use sz_conveyed::{Conveyed, Onboarding, is_onboarding};
 use sz_json::JsonFault;
-use sz_voucher::Voucher;
 
 /// What evidence is judged as.
 #[derive(Debug, Drop)]

@@ -5,14 +5,14 @@ ghost use Rattle.sz_base.specs.declared.evidence.Evidence.{Evidence};
 ghost use Rattle.sz_base.specs.declared.identity.Identity.{Identity};
 ghost use Rattle.sz_base.specs.declared.moment.Moment.{Moment};
 ghost use Rattle.sz_cms.specs.Message.{InfoOf, Plain};
-ghost use Rattle.sz_conveyed.specs.declared.onboarding.Onboarding.{Onboarding};
+ghost use Rattle.sz_artifacts.specs.declared.conveyed.onboarding.Onboarding.{Onboarding};
 ghost use Rattle.sz_evidence.specs.Authorised.{Authorised, CarriesVoucher};
 ghost use Rattle.sz_evidence.specs.IdentityFile.{IdentityOf, IsBadIdentity};
 ghost use Rattle.sz_evidence.specs.Judgement.{Judgement};
 ghost use Rattle.sz_evidence.specs.declared.judgement.Judged.{Judged};
 ghost use Rattle.sz_evidence.specs.declared.reason.Reason.{Reason};
 ghost use Rattle.sz_json.specs.declared.name.Name.{Name};
-ghost use Rattle.sz_voucher.specs.declared.voucher.Voucher.{Voucher};
+ghost use Rattle.sz_artifacts.specs.declared.voucher.Voucher.{Voucher};
 
 /// The judgement is one answer.
 pub fn judgements_are_single()

@@ -5,12 +5,11 @@ ghost use Rattle.std.specs.Option.{option_copied};
 ghost use Rattle.sz_cms.specs.View.{signed_of};
 ghost use Rattle.sz_evidence.specs.Authorised.{asked, certs_where, crls_where};
 ghost use Rattle.sz_evidence.specs.View.{owner_of};
-ghost use Rattle.sz_path.specs.declared.bag.TheConstants.{MOST_CERTS};
+ghost use Rattle.sz_chain.specs.Bags.{most_bag_certs};
 
 use sz_base::Bytes;
-use sz_chain::{Bag, CrlBag};
+use sz_chain::{Bag, CrlBag, Slices};
 use sz_cms::Signed;
-use sz_path::Slices;
 
 /// The certificates of the conveyed information and of the owner certificate.
 pub(crate) fn certs_of<'a>(signed: &Signed<'a>, owner: &Option<Signed<'a>>) -> Bag<'a>
@@ -38,7 +37,7 @@ pub(crate) fn crls_of<'a>(signed: &Signed<'a>, owner: &Option<Signed<'a>>) -> Cr
 
 /// A bag of these.
 pub(crate) fn all_of<'a>(each: &[&'a [u8]]) -> Bag<'a>
-    requires { length each.now ≤ MOST_CERTS }
+    requires { length each.now ≤ most_bag_certs }
     ensures { result ≡ map (λ one. one.now) each.entry.now }
 {
     let mut bag = Bag::create();
@@ -48,7 +47,7 @@ pub(crate) fn all_of<'a>(each: &[&'a [u8]]) -> Bag<'a>
 
 /// A bag of these.
 pub(crate) fn anchors_of<'a>(each: &'a [Bytes]) -> Bag<'a>
-    requires { length each.now ≤ MOST_CERTS }
+    requires { length each.now ≤ most_bag_certs }
     ensures { result ≡ each.entry.now }
 {
     let mut bag = Bag::create();

@@ -1,24 +1,24 @@
 //! The voucher: whether it is right for the device at the moment.
 
-ghost use Rattle.std.specs.Prelude.{◌≡◌, ◌∷◌, [], IfOk, IfErr, OnOk, None};
+ghost use Rattle.std.specs.Prelude.{◌≡◌, IfOk, IfErr, OnOk, None};
 ghost use Rattle.sz_base.specs.Identity.{IsWhole};
 ghost use Rattle.sz_chain.specs.SignedBy.{SignedBy};
 ghost use Rattle.sz_cms.specs.View.{signed_of};
 ghost use Rattle.sz_evidence.specs.Authorised.{VoucherOk};
 ghost use Rattle.sz_evidence.specs.Judgement.{First, voucher_reason, voucher_rules};
 ghost use Rattle.sz_evidence.specs.View.{IsReason, IsUnfit, PinsNoCertificate, RefusesVoucher};
-ghost use Rattle.sz_voucher.specs.Judgement.{Fits};
+ghost use Rattle.sz_artifacts.specs.Vouching.{VouchesFor};
 ghost use Rattle.sz_x509.specs.Certificate.{Certificate, CertOf};
 
 use crate::messages::voucher_message;
 use crate::strings::{all_of, anchors_of};
 use crate::{Artifact, Reason, Refusal};
 use std::alloc::Global;
+use sz_artifacts::{Voucher, VoucherFault, judge};
 use sz_base::{Bytes, Identity, Moment, Seconds};
 use sz_chain::signed_by;
 use sz_cms::Signed;
 use sz_json::Name;
-use sz_voucher::{Voucher, VoucherFault, judge};
 use sz_x509::Cert;
 
 /// The voucher, where it is right: signed under the identity's anchors, for this device at this moment, and with a
@@ -65,7 +65,7 @@ fn check_maker<'a>(
 
 // Whether the voucher is for this device at this moment.
 fn check_fit(voucher: &Voucher, identity: &Identity, when: Moment) -> Result<(), Refusal>
-    ensures ok { OnOk result (Fits voucher.now identity.now.serial when) }
+    ensures ok { OnOk result (VouchesFor voucher.now identity.now.serial when) }
     ensures refused { IfErr result (IsReason (IsUnfit voucher.now identity.now when)) }
 {
     match judge(voucher, &identity.serial, when) {

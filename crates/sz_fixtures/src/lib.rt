@@ -1,13 +1,18 @@
 //! What the tests of several crates share: items of DER and messages of any parts, keys of fixed secrets with what they
-//! sign, and an outside in memory with scripted servers, files and identities. Nothing of it is in the program.
+//! sign, and an outside in memory with scripted servers, files, disks and identities. Nothing of it is in the program.
 #![tactic(auto)]
 
 mod der;
 mod device;
+pub mod digests;
+pub mod disks;
 mod evidence;
 mod files;
 mod network;
+pub mod offers;
+mod pad;
 mod replies;
+pub mod sources;
 
 pub use der::{algorithm, encapsulated, item, joined, plain, signed_data, signer_info};
 pub use device::{identity, identity_file};
@@ -16,4 +21,5 @@ pub use evidence::{
 };
 pub use files::{add_file, folder, texts};
 pub use network::{Reply, calls, scripted, servers};
+pub use pad::Pad;
 pub use replies::{artifacts, base64, reply};

@@ -10,7 +10,7 @@ use Rattle.sz_lms.specs.Bits.{AreBytes}
 use Rattle.sz_lms.proofs.LawBytes.{drop_bytes, take_bytes}
 use Rattle.sz_hss.specs.Key.{Shape, AreLevels, IsKey, is_shape, key_of, levels_of}
 use Rattle.sz_hss.specs.Leaf.{leaf_count, leaves_below}
-use Rattle.sz_hss.specs.Stored.{IsStored, shape_bytes, spelled}
+use Rattle.sz_hss.specs.Stored.{IsStoredKey, shape_bytes, spelled}
 use Rattle.sz_hss.specs.StoredFault.{HasHead, end_place, next_place, part, shape_at, shape_place, shapes_in, stored_size, u64_at}
 use Rattle.sz_hss.specs.View.{shape_of, shapes_of}
 use Rattle.sz_hss.specs.declared.level.Level.{Level}
@@ -109,7 +109,7 @@ pub IsStored-parts : (bytes : List ℕ) (shapes : List Shape) (seed id : List �
     → seed ≡ part bytes (shape_place (length shapes)) 32 → id ≡ part bytes (shape_place (length shapes) + 32) 16
     → next ≡ u64_at bytes (next_place (length shapes)) → end ≡ u64_at bytes (end_place (length shapes))
     → next ≤ end → end ≤ leaves_below shapes
-    → IsStored (record { key = key_of shapes seed id; next = next; end = end }) bytes
+    → IsStoredKey (record { key = key_of shapes seed id; next = next; end = end }) bytes
 unfolding spelled
 IsStored-parts bytes shapes seed id next end are levels head size seed_is id_is next_is end_is begun within =
     let count = length shapes in

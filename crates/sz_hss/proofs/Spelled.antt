@@ -9,7 +9,7 @@ use Rattle.sz_lms.proofs.LawBytes.{behind, part_at}
 use Rattle.sz_lms_tree.specs.Tree.{is_height, is_width}
 use Rattle.sz_hss.specs.Key.{Shape, AreLevels, is_shape, levels_of}
 use Rattle.sz_hss.specs.Leaf.{heights_of, leaves_below}
-use Rattle.sz_hss.specs.Stored.{StoredKey, IsStored, shape_bytes, spelled}
+use Rattle.sz_hss.specs.Stored.{StoredKey, IsStoredKey, shape_bytes, spelled}
 use Rattle.sz_hss.specs.StoredFault.{end_place, field_tests, first_wrong, is_level_count, next_place, shape_at, shape_place, shape_tests, shapes_in, stored_size, stored_tests, u64_at}
 use Rattle.sz_hss.proofs.Walk.{heights-small}
 
@@ -114,7 +114,7 @@ pass-spelled levels seed id next end are seed_length id_length begun within =
     (le-leb _ _ (omega arith)) (le-leb _ _ begun_read) (le-leb _ _ within_read) (le-leb _ _ (omega arith)) in
     rw (count-allowed n are.some are.few) (pass ∙ fields)
 
-pub no-wrong_byte : (stored : StoredKey) (bytes : List ℕ) → IsStored stored bytes → first_wrong (stored_tests bytes) ≡ None
+pub no-wrong_byte : (stored : StoredKey) (bytes : List ℕ) → IsStoredKey stored bytes → first_wrong (stored_tests bytes) ≡ None
 unfolding spelled
 no-wrong_byte stored bytes is =
     let key = stored.key in

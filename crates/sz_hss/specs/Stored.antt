@@ -32,6 +32,6 @@ pub record IsStorable (stored : StoredKey) : Type 0 where
   pub within : stored.end ≤ leaf_count stored.key
 
 -- the bytes are the stored form of this key
-pub record IsStored (stored : StoredKey) (bytes : List ℕ) : Type 0 where
+pub record IsStoredKey (stored : StoredKey) (bytes : List ℕ) : Type 0 where
   pub storable : IsStorable stored
   pub spelled_is : bytes ≡ spelled stored

@@ -6,7 +6,7 @@ ghost use Rattle.sz_base.specs.declared.fault.BaseFault.{BaseFault};
 ghost use Rattle.sz_hss.specs.Key.{AreLevels, HssKey, IsKey, Shape};
 ghost use Rattle.sz_hss.specs.LevelsText.{IsLevelsText, levels_text};
 ghost use Rattle.sz_hss.specs.Signature.{hss_public_of, hss_signature_of};
-ghost use Rattle.sz_hss.specs.Stored.{StoredKey, IsStored};
+ghost use Rattle.sz_hss.specs.Stored.{StoredKey, IsStoredKey};
 ghost use Rattle.sz_hss.specs.StoredFault.{first_wrong, stored_tests};
 ghost use Rattle.sz_hss.specs.Used.{AreSound, IsSameLeaf, Release, Use, used};
 ghost use Rattle.sz_lms.specs.Hss.{HssOk};
@@ -27,7 +27,8 @@ pub fn leaves_sign_once()
 
 /// The stored form of a key has no wrong byte, so that a reader refuses exactly what is no stored key.
 pub fn stored_keys_have_no_wrong_byte()
-    ensures { (stored : StoredKey) (bytes : List ℕ) → IsStored stored bytes → first_wrong (stored_tests bytes) ≡ None }
+    ensures { (stored : StoredKey) (bytes : List ℕ) → IsStoredKey stored bytes
+        → first_wrong (stored_tests bytes) ≡ None }
 {}
 
 /// Levels that a key may have are read from their text, and a text has one reading.

@@ -4,7 +4,7 @@ ghost use Rattle.std.specs.Prelude.{◌≡◌, ℕ, suc, ◌++◌, ◌+◌, ◌^
 ghost use Rattle.std.specs.List.{list_all};
 ghost use Rattle.sz_hss.specs.Key.{is_shape};
 ghost use Rattle.sz_hss.specs.Leaf.{leaves_below};
-ghost use Rattle.sz_hss.specs.Stored.{IsStored};
+ghost use Rattle.sz_hss.specs.Stored.{IsStoredKey};
 ghost use Rattle.sz_hss.specs.StoredFault.{IsWrong, HasHead, first_wrong, stored_tests, is_level_count, shape_at, shape_tests, shapes_in, field_tests, part, u64_at, next_place, end_place, stored_size};
 ghost use Rattle.sz_hss.specs.View.{record_of, shape_of, shapes_of};
 
@@ -154,7 +154,7 @@ fn read_numbers(bytes: &[u8], count: usize, leaves: u64) -> Result<(u64, u64), B
 /// width that is not allowed, at the end of a form that ends early, in a next leaf number over the end, in an end over
 /// the number of leaves, or the first byte that follows.
 pub fn read(bytes: &[u8]) -> Result<StoredKey, BadKey>
-    ensures ok { IfOk result (λ stored. IsStored (record_of stored) bytes.now) }
+    ensures ok { IfOk result (λ stored. IsStoredKey (record_of stored) bytes.now) }
     ensures sound { OnOk result (first_wrong (stored_tests bytes.now) ≡ None) }
     ensures wrong { IfErr result (λ fault. IsWrong bytes.now (stored_tests bytes.now) fault.place fault.value) }
 {

@@ -1,8 +1,8 @@
 -- What a device downloads over a list of URIs, of which each is tried in order until one gives the image (RFC 8572
 -- sections 5.6 and 6.3).
-use Rattle.std.specs.Prelude.{◌≡◌, ◌≢◌, ◌⊎◌, ℕ, ◌+◌, ◌≤◌, min, Bool, true, false, List, [], ◌∷◌, ◌++◌, length, count_by, Option, Some, None, Result, Err}
+use Rattle.std.specs.Prelude.{◌≡◌, ◌≢◌, ◌⊎◌, ℕ, ◌+◌, ◌≤◌, Bool, true, false, List, [], ◌∷◌, ◌++◌, length, count_by, Option, Some, None, Result, Err}
 use Rattle.sha2.specs.Sha256.{sha256}
-use Rattle.sz_spec.specs.Cause.{last_count}
+use Rattle.sz_spec.specs.Cause.{RoseBy}
 use Rattle.sz_spec.specs.Told.{WhereTold}
 use Rattle.sz_base.specs.declared.image.ImageFault.{ImageFault}
 use Rattle.sz_base.specs.declared.image.ImageFault.TheVariants as image
@@ -88,10 +88,6 @@ abbrev pub AreFaultsBefore : List (List ℕ) → List ImageFault → Type 0
 AreFaultsBefore [] faults = ⊥
 AreFaultsBefore (text ∷ texts) [] = (uri : Uri) × IsUri text uri
 AreFaultsBefore (text ∷ texts) (fault ∷ faults) = IsFaultOf text fault × AreFaultsBefore texts faults
-
--- the count rose so many times, or stands at its end
-abbrev pub RoseBy : ℕ → ℕ → ℕ → Type 0
-RoseBy before now times = min (before + times) last_count ≤ now
 
 -- the network's count rose for each download that was lost, and for nothing else
 pub record CountsLost (faults : List ImageFault) (before now : ℕ) : Type 0 where

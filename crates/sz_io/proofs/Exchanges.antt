@@ -13,7 +13,7 @@ use Rattle.sz_io.specs.declared.exchange.ExchangeEnd.TheVariants.{Open, Closed, 
 use Rattle.sz_io.specs.Connection.{push_some, with_received, IsAtClose, MayReceive}
 use Rattle.sz_io.proofs.Connections.{all_bytes-with_received}
 use Rattle.sz_io.specs.Net.{Traffic, left_behind, Standing, exchanges, exchange_of, first_end, ended, sent_on, received_on, with_standing, first_standing, refused_exchange, after_close, after_refused_connect, after_refused_receive, Connects, Sends, SendsFront, FailsToSend, Receives}
-use Rattle.sz_io.specs.Added.{IsLater, AreLater, ReceivedFrom, Takes, CameOf, answer_of, StandsOn, TakesAnswers, Adds, added}
+use Rattle.sz_io.specs.Added.{IsLater, AreLater, ReceivedFrom, TakesFirst, CameOf, answer_of, StandsOn, TakesAnswers, Adds, added}
 
 pub IsLater-refl : (e : Exchange) → IsLater e e
 IsLater-refl e = record { target = refl; sent = ([], sym (append-nil e.sent)); received = ([], sym (append-nil e.received)); end = λ _. refl }
@@ -61,7 +61,7 @@ pub AreLater-push : (xs : List Exchange) (x y : Exchange) → IsLater x y → Ar
 AreLater-push [] x y later = (later, refl)
 AreLater-push (z ∷ xs) x y later = (IsLater-refl z, AreLater-push xs x y later)
 
-takes-rest : (x : Exchange) (more : List Exchange) (front others back : List Script) → Takes x front others
+takes-rest : (x : Exchange) (more : List Exchange) (front others back : List Script) → TakesFirst x front others
     → CameOf more (others ++ back) → CameOf (x ∷ more) (front ++ back)
 takes-rest x more front others back (inl took) rest = (others ++ back, inl (took.0, ap (λ l. l ++ back) took.1, took.2), rest)
 takes-rest x more front others back (inr refused) rest = (others ++ back, inr (ap (λ l. l ++ back) refused.0, refused.1), rest)

@@ -27,8 +27,8 @@ pub record ReceivedFrom (answer : Script) (exchange : Exchange) : Type 0 where
   pub closed : exchange.end ≡ Closed → IsTrue answer.closed
 
 -- The exchange took the first of these answers and left the others, or its connect failed and it took none.
-abbrev pub Takes : Exchange → List Script → List Script → Type 0
-Takes exchange answers others =
+abbrev pub TakesFirst : Exchange → List Script → List Script → Type 0
+TakesFirst exchange answers others =
     ((answer : Script) × (answers ≡ answer ∷ others) × ReceivedFrom answer exchange)
     ⊎ ((answers ≡ others) × (exchange ≡ refused_exchange exchange.target))
 
@@ -36,7 +36,7 @@ Takes exchange answers others =
 abbrev pub CameOf : List Exchange → List Script → Type 0
 CameOf [] answers = answers ≡ []
 CameOf (exchange ∷ more) answers =
-    (others : List Script) × Takes exchange answers others × CameOf more others
+    (others : List Script) × TakesFirst exchange answers others × CameOf more others
 
 -- all that comes on the connection that stands: what was received, and what is still to come
 abbrev pub answer_of : Standing → Script

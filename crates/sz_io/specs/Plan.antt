@@ -1,6 +1,6 @@
 -- Which calls of an object fail.
-use Rattle.std.specs.Prelude.{ℕ, ◌+◌, min, List, Bool, if◌then◌else◌, Contains}
-use Rattle.sz_spec.specs.Cause.{last_count}
+use Rattle.std.specs.Prelude.{ℕ, List, Bool, if◌then◌else◌, Contains}
+use Rattle.sz_spec.specs.Cause.{risen}
 
 -- The numbers of the calls that fail, counted from 1 over all calls of the object; how many calls there
 -- were; how many of them failed.
@@ -11,7 +11,7 @@ pub record Plan : Type 0 where
 
 -- one more, where a count stands still at its end
 abbrev pub one_more : ℕ → ℕ
-one_more count = min (count + 1) last_count
+one_more count = risen count 1
 
 -- no call was made yet
 abbrev pub first_plan : List ℕ → Plan

@@ -6,13 +6,13 @@ use Rattle.sz_der.specs.declared.tag.TheConstants.{BIT_STRING, OBJECT_IDENTIFIER
 use Rattle.sz_issue.specs.Certificate.{AreValues, AreWrittenExtensions, CertValues, constraints_extension, IsDefaultFalse, IsWrittenExtension, IsWrittenKey, IsWrittenTbs, IsWrittenValidity, key_id_extension, usage_extension}
 use Rattle.sz_issue.specs.Parts.{Appends, Holds, IsCommonName}
 use Rattle.sz_issue.proofs.SharedParts.{and_after, Der_of, from_start}
-use Rattle.sz_x509.specs.Certificate.{IsAlgorithm, IsVersion3, key_length}
+use Rattle.sz_x509.specs.Certificate.{IsHssAlgorithm, IsVersion3, key_length}
 use Rattle.sz_x509.specs.declared.tag.TheConstants.{EXTENSIONS}
 
 -- ---- parts
 
 pub key_written : {key octets held start first second read old new : List ℕ} → length key ≡ key_length → octets ≡ OCTET_STRING ∷ key_length ∷ key →
-    held ≡ octets → start ≡ [] → Appends IsAlgorithm start first → AppendsItem first second BIT_STRING (0 ∷ held) → read ≡ second →
+    held ≡ octets → start ≡ [] → Appends IsHssAlgorithm start first → AppendsItem first second BIT_STRING (0 ∷ held) → read ≡ second →
     AppendsItem old new SEQUENCE read → Appends (IsWrittenKey key) old new
 key_written {start = start} {first = first} {second = second} size wrapped same empty algorithm bits is out =
     let parts = from_start start second (algorithm.part ++ bits.whole) empty
@@ -82,7 +82,7 @@ extensions_written {values} {constraints} {usage} {key_id} {start} {first} {seco
 -- ---- the whole
 
 pub tbs_written : {values : CertValues} {start a b c d e f g new read : List ℕ} → start ≡ [] → Appends IsVersion3 start a →
-    AppendsInteger a b values.serial → Appends IsAlgorithm b c → Appends (IsCommonName values.issuer) c d →
+    AppendsInteger a b values.serial → Appends IsHssAlgorithm b c → Appends (IsCommonName values.issuer) c d →
     Appends (IsWrittenValidity values.not_before values.not_after) d e → Appends (IsCommonName values.subject) e f →
     Appends (IsWrittenKey values.key) f g → Appends (AreWrittenExtensions values) g new → read ≡ new →
     (bytes : List ℕ) → Der SEQUENCE read bytes → IsWrittenTbs values bytes

@@ -7,7 +7,7 @@ use Rattle.std.proofs.lemmas.Bool.{and_parts, cases_Bool, eqb-false, eqb-true}
 use Rattle.std.proofs.lemmas.List.{append-nil}
 use Rattle.sz_der.specs.Content.{bit_of, HasNamedBits, HoldsBits}
 use Rattle.sz_issue.specs.Certificate.{AreValues, AreWrittenExtensions, CertValues, constraints_extension, IsDefaultFalse, IsWrittenConstraints, IsWrittenExtension, IsWrittenKey, IsWrittenTbs, IsWrittenValidity, key_id_extension, restrictions_of, Says, signed, usage_extension, usage_octets, usage_of}
-use Rattle.sz_issue.specs.Parts.{IsSigned}
+use Rattle.sz_issue.specs.Parts.{IsSignedForm}
 use Rattle.sz_issue.proofs.SharedParts.{is_time}
 use Rattle.sz_x509.specs.Certificate.{Certificate, CertOf, IsKey, IsTbs, IsValidity, key_length}
 use Rattle.sz_x509.specs.Extensions.{AreDistinct, Extension, HasExtensions, IsBasicConstraints, IsExtension, IsFlag, IsKeyUsage, IsUnderstood, Restrict}
@@ -109,6 +109,7 @@ are_understood constraints usage key_id = ((λ critical. refl), ((λ critical. r
 restrict : (values : CertValues) (constraints usage key_id : List ℕ) → AreValues values constraints usage key_id →
     Restrict (three constraints usage key_id) (restrictions_of values)
 restrict values constraints usage key_id are = record {
+  few = omega arith;
   distinct = are_distinct constraints usage key_id;
   understood = are_understood constraints usage key_id;
   basic_constraints = is_constraints are.are_constraints;
@@ -191,7 +192,7 @@ says values bytes w = (
   is_tbs values bytes w,
 )
 
-pub is_certificate : (fields : Certificate) (tbs signature whole : List ℕ) → IsTbs fields tbs → IsSigned tbs signature whole →
+pub is_certificate : (fields : Certificate) (tbs signature whole : List ℕ) → IsTbs fields tbs → IsSignedForm tbs signature whole →
     CertOf whole (signed fields tbs signature whole)
 unfolding signed
 is_certificate fields tbs signature whole is w = record {

@@ -7,7 +7,7 @@ use Rattle.sz_der.specs.declared.tag.TheConstants.{INTEGER, SEQUENCE}
 use Rattle.sz_issue.specs.Parts.{Appends, IsCommonName, IsWrittenTime}
 use Rattle.sz_issue.specs.RevocationList.{AreWrittenEntries, CrlValues, IsWrittenEntry, IsWrittenNextUpdate, IsWrittenRevoked, IsWrittenTbsList}
 use Rattle.sz_issue.proofs.SharedParts.{and_after, Der_of, from_start}
-use Rattle.sz_x509.specs.Certificate.{IsAlgorithm}
+use Rattle.sz_x509.specs.Certificate.{IsHssAlgorithm}
 use Rattle.sz_x509.specs.Parts.{AreEach}
 
 -- ---- entries
@@ -45,7 +45,7 @@ entry_last date serials serial old new are more =
 -- ---- the whole
 
 pub list_written : (values : CrlValues) (entries : List ℕ) {start a b c d e new read : List ℕ} → AreWrittenEntries values.this_update values.serials entries →
-    start ≡ [] → AppendsItem start a INTEGER (1 ∷ []) → Appends IsAlgorithm a b → Appends (IsCommonName values.issuer) b c →
+    start ≡ [] → AppendsItem start a INTEGER (1 ∷ []) → Appends IsHssAlgorithm a b → Appends (IsCommonName values.issuer) b c →
     Appends (IsWrittenTime values.this_update) c d → Appends (IsWrittenNextUpdate values.next_update) d e →
     Appends (IsWrittenRevoked values.serials entries) e new → read ≡ new → (bytes : List ℕ) → Der SEQUENCE read bytes → IsWrittenTbsList values bytes
 list_written values entries {start} {a} {b} {c} {d} {e} {new} are empty version algorithm issuer this next revoked is bytes out =

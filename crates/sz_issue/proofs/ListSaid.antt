@@ -8,7 +8,7 @@ use Rattle.std.proofs.lemmas.List.{append-nil}
 use Rattle.std.proofs.lemmas.Slice.Eq.{bytes_eq-Decides}
 use Rattle.sz_der.proofs.Values.{one_content}
 use Rattle.sz_der.specs.Integer.{IsIntegerOf}
-use Rattle.sz_issue.specs.Parts.{IsSigned}
+use Rattle.sz_issue.specs.Parts.{IsSignedForm}
 use Rattle.sz_issue.specs.RevocationList.{AreWrittenEntries, CrlValues, IsWrittenEntry, IsWrittenNextUpdate, IsWrittenRevoked, IsWrittenTbsList, Lists, SaysList, signed_list}
 use Rattle.sz_issue.proofs.SharedParts.{is_time}
 use Rattle.sz_x509.specs.RevocationList.{AreEntries, CrlOf, is_listed, IsEntry, IsNextUpdate, IsRevoked, IsTbsList, RevocationList}
@@ -134,7 +134,7 @@ says values bytes w = (
   is_tbs_list values bytes w,
 )
 
-pub is_list : (fields : RevocationList) (tbs signature whole : List ℕ) → IsTbsList fields tbs → IsSigned tbs signature whole →
+pub is_list : (fields : RevocationList) (tbs signature whole : List ℕ) → IsTbsList fields tbs → IsSignedForm tbs signature whole →
     CrlOf whole (signed_list fields tbs signature whole)
 unfolding signed_list
 is_list fields tbs signature whole is w = record {

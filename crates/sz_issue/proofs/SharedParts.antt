@@ -10,9 +10,9 @@ use Rattle.sz_der.specs.Der.{Der}
 use Rattle.sz_der.specs.Items.{AppendsItem}
 use Rattle.sz_der.specs.Time.{NamesTime}
 use Rattle.sz_der.specs.declared.tag.TheConstants.{OBJECT_IDENTIFIER, SEQUENCE, SET, UTF8_STRING}
-use Rattle.sz_issue.specs.Parts.{Appends, Holds, is_utc, IsCommonName, IsSigned, IsWrittenSerial, IsWrittenTime, time_tag, time_text}
+use Rattle.sz_issue.specs.Parts.{Appends, Holds, is_utc, IsCommonName, IsSignedForm, IsWrittenSerial, IsWrittenTime, time_tag, time_text}
 use Rattle.sz_issue.specs.declared.parts.TheConstants.{COMMON_NAME}
-use Rattle.sz_x509.specs.Certificate.{IsAlgorithm, IsTime}
+use Rattle.sz_x509.specs.Certificate.{IsHssAlgorithm, IsTime}
 
 -- ---- what a writer joins
 
@@ -78,7 +78,7 @@ one_item {tag} {content} {other} {whole} {next} same a b = one_string tag other 
 pub both : (a b c d : List ℕ) → a ≡ b → c ≡ d → a ++ c ≡ b ++ d
 both a b c d front back = ap (λ (x : List ℕ). x ++ c) front ∙ ap (λ (x : List ℕ). b ++ x) back
 
-pub one_algorithm : {bytes other : List ℕ} → IsAlgorithm bytes → IsAlgorithm other → bytes ≡ other
+pub one_algorithm : {bytes other : List ℕ} → IsHssAlgorithm bytes → IsHssAlgorithm other → bytes ≡ other
 one_algorithm a b = one_item (one_item refl a.is_identifier b.is_identifier) a.is_sequence b.is_sequence
 
 pub one_serial : {serial : ℕ} {bytes other : List ℕ} → IsWrittenSerial serial bytes → IsWrittenSerial serial other → bytes ≡ other
@@ -94,7 +94,7 @@ one_time_item {seconds} {bytes} {other} a b =
     let same = one_time seconds a.time b.time a.is_from_1950.is_at b.is_from_1950.is_at in
     one_item refl (subst (λ (time : CivilTime). Der (time_tag time) (time_text time) bytes) same a.is_item) b.is_item
 
-pub one_signed : (tbs signature bytes other : List ℕ) → IsSigned tbs signature bytes → IsSigned tbs signature other → bytes ≡ other
+pub one_signed : (tbs signature bytes other : List ℕ) → IsSignedForm tbs signature bytes → IsSignedForm tbs signature other → bytes ≡ other
 one_signed tbs signature bytes other a b =
     let end = both a.algorithm b.algorithm a.bits b.bits (one_algorithm a.is_algorithm b.is_algorithm) (one_item refl a.is_signature b.is_signature) in
     one_item (both tbs tbs _ _ refl end) a.is_sequence b.is_sequence

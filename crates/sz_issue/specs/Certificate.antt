@@ -6,7 +6,7 @@ use Rattle.sz_der.specs.Integer.{IsIntegerOf}
 use Rattle.sz_der.specs.declared.tag.TheConstants.{BIT_STRING, BOOLEAN, OBJECT_IDENTIFIER, OCTET_STRING, SEQUENCE}
 use Rattle.sz_issue.specs.Parts.{IsCommonName, IsWrittenSerial, IsWrittenTime}
 use Rattle.sz_issue.specs.declared.cert.CertSpec.{CertSpec}
-use Rattle.sz_x509.specs.Certificate.{Certificate, IsAlgorithm, IsVersion3, key_length}
+use Rattle.sz_x509.specs.Certificate.{Certificate, IsHssAlgorithm, IsVersion3, key_length}
 use Rattle.sz_x509.specs.Extensions.{Extension, IsPathLength, Restrictions}
 use Rattle.sz_x509.specs.declared.identifier.TheConstants.{BASIC_CONSTRAINTS, KEY_USAGE, SUBJECT_KEY_IDENTIFIER}
 use Rattle.sz_x509.specs.declared.tag.TheConstants.{EXTENSIONS}
@@ -50,7 +50,7 @@ pub record IsWrittenKey (key bytes : List ℕ) : Type 0 where
   pub of_length : length key ≡ key_length
   pub algorithm : List ℕ
   pub bits : List ℕ
-  pub is_algorithm : IsAlgorithm algorithm
+  pub is_algorithm : IsHssAlgorithm algorithm
   pub is_bits : Der BIT_STRING (0 ∷ OCTET_STRING ∷ key_length ∷ key) bits
   pub is_sequence : Der SEQUENCE (algorithm ++ bits) bytes
 
@@ -121,7 +121,7 @@ pub record IsWrittenTbs (values : CertValues) (bytes : List ℕ) : Type 0 where
   pub extensions : List ℕ
   pub is_version : IsVersion3 version
   pub is_serial : IsWrittenSerial values.serial serial
-  pub is_algorithm : IsAlgorithm algorithm
+  pub is_algorithm : IsHssAlgorithm algorithm
   pub is_issuer : IsCommonName values.issuer issuer
   pub is_validity : IsWrittenValidity values.not_before values.not_after validity
   pub is_subject : IsCommonName values.subject subject

@@ -6,7 +6,7 @@ use Rattle.sz_der.specs.Integer.{IsIntegerOf}
 use Rattle.sz_der.specs.Time.{generalized_text, utc_text}
 use Rattle.sz_der.specs.declared.tag.TheConstants.{GENERALIZED_TIME, INTEGER, OBJECT_IDENTIFIER, SEQUENCE, SET, UTC_TIME, UTF8_STRING}
 use Rattle.sz_issue.specs.declared.parts.TheConstants.{COMMON_NAME}
-use Rattle.sz_x509.specs.Certificate.{IsAlgorithm, IsSignature}
+use Rattle.sz_x509.specs.Certificate.{IsHssAlgorithm, IsSignature}
 
 -- CertificateSerialNumber (4.1.2.2), in as few octets as will do
 pub record IsWrittenSerial (serial : ℕ) (bytes : List ℕ) : Type 0 where
@@ -53,10 +53,10 @@ pub record IsWrittenTime (seconds : ℤ) (bytes : List ℕ) : Type 0 where
   pub is_item : Der (time_tag time) (time_text time) bytes
 
 -- what is signed, the algorithm and the signature: a Certificate (4.1), or a CertificateList (5.1)
-pub record IsSigned (tbs signature bytes : List ℕ) : Type 0 where
+pub record IsSignedForm (tbs signature bytes : List ℕ) : Type 0 where
   pub algorithm : List ℕ
   pub bits : List ℕ
-  pub is_algorithm : IsAlgorithm algorithm
+  pub is_algorithm : IsHssAlgorithm algorithm
   pub is_signature : IsSignature signature bits
   pub is_sequence : Der SEQUENCE (tbs ++ (algorithm ++ bits)) bytes
 

@@ -6,7 +6,7 @@ use Rattle.sz_der.specs.Integer.{IsIntegerOf}
 use Rattle.sz_der.specs.declared.tag.TheConstants.{INTEGER, SEQUENCE}
 use Rattle.sz_issue.specs.Parts.{IsCommonName, IsWrittenSerial, IsWrittenTime}
 use Rattle.sz_issue.specs.declared.list.CrlSpec.{CrlSpec}
-use Rattle.sz_x509.specs.Certificate.{IsAlgorithm}
+use Rattle.sz_x509.specs.Certificate.{IsHssAlgorithm}
 use Rattle.sz_x509.specs.CrlView.{seconds_of}
 use Rattle.sz_x509.specs.Parts.{AreEach}
 use Rattle.sz_x509.specs.RevocationList.{AreEntries, is_listed, RevocationList}
@@ -54,7 +54,7 @@ pub record IsWrittenTbsList (values : CrlValues) (bytes : List ℕ) : Type 0 whe
   pub entries : List ℕ
   pub revoked : List ℕ
   pub is_version : IsVersion2 version
-  pub is_algorithm : IsAlgorithm algorithm
+  pub is_algorithm : IsHssAlgorithm algorithm
   pub is_issuer : IsCommonName values.issuer issuer
   pub is_this_update : IsWrittenTime values.this_update this_update
   pub is_next_update : IsWrittenNextUpdate values.next_update next_update

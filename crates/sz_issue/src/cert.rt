@@ -2,7 +2,7 @@
 
 ghost use Rattle.std.specs.Prelude.{◌≡◌, ◌∷◌, IfOk, OnOk};
 ghost use Rattle.sz_issue.specs.Certificate.{cert_values, IsWrittenKey, IsWrittenTbs, IsWrittenValidity, Says, signed};
-ghost use Rattle.sz_issue.specs.Parts.{Appends, IsSigned, IsWritable};
+ghost use Rattle.sz_issue.specs.Parts.{Appends, IsSignedForm, IsWritable};
 ghost use Rattle.sz_x509.specs.Certificate.{Certificate, CertOf, IsTbs, IsVersion3, key_length};
 
 use crate::extensions::write_extensions;
@@ -54,7 +54,7 @@ pub fn write_tbs(alloc: Global, spec: &CertSpec) -> Result<Bytes, OutOfMemory>
 /// Writes the certificate of a TBSCertificate, as `write_tbs` gives it, and of its HSS signature (RFC 5280 section
 /// 4.1.1).
 pub fn write_cert(alloc: Global, tbs: &[u8], signature: &[u8]) -> Result<Bytes, OutOfMemory>
-    ensures written { IfOk result (IsSigned tbs.now signature.now) }
+    ensures written { IfOk result (IsSignedForm tbs.now signature.now) }
     ensures certificate { (fields : Certificate) → IsTbs fields tbs.now
         → IfOk result (λ whole. CertOf whole (signed fields tbs.now signature.now whole)) }
 {

@@ -2,7 +2,7 @@
 
 ghost use Rattle.std.specs.Prelude.{◌≡◌, List, ℕ};
 ghost use Rattle.sz_issue.specs.Certificate.{CertValues, IsWrittenTbs};
-ghost use Rattle.sz_issue.specs.Parts.{IsSigned};
+ghost use Rattle.sz_issue.specs.Parts.{IsSignedForm};
 ghost use Rattle.sz_issue.specs.RevocationList.{CrlValues, IsWrittenTbsList};
 
 /// What is written of given values is one string of bytes.
@@ -11,6 +11,6 @@ pub fn written_once()
         → IsWrittenTbs values other → bytes ≡ other }
     ensures list { (values : CrlValues) (bytes other : List ℕ) → IsWrittenTbsList values bytes
         → IsWrittenTbsList values other → bytes ≡ other }
-    ensures signed { (tbs signature bytes other : List ℕ) → IsSigned tbs signature bytes
-        → IsSigned tbs signature other → bytes ≡ other }
+    ensures signed { (tbs signature bytes other : List ℕ) → IsSignedForm tbs signature bytes
+        → IsSignedForm tbs signature other → bytes ≡ other }
 {}

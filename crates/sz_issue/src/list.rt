@@ -1,7 +1,7 @@
 //! The writer of revocation lists (RFC 5280 section 5.1) with HSS/LMS signatures (RFC 8708).
 
 ghost use Rattle.std.specs.Prelude.{IfOk, IfSome, OnOk};
-ghost use Rattle.sz_issue.specs.Parts.{Appends, IsSigned, IsWritable};
+ghost use Rattle.sz_issue.specs.Parts.{Appends, IsSignedForm, IsWritable};
 ghost use Rattle.sz_issue.specs.RevocationList.{AreWrittenEntries, crl_values, IsWrittenEntry, IsWrittenNextUpdate, IsWrittenRevoked, IsWrittenTbsList, SaysList, signed_list};
 ghost use Rattle.sz_x509.specs.CrlView.{seconds_of};
 ghost use Rattle.sz_x509.specs.RevocationList.{CrlOf, IsTbsList, RevocationList};
@@ -44,7 +44,7 @@ pub fn write_crl_tbs(alloc: Global, spec: &CrlSpec) -> Result<Bytes, OutOfMemory
 /// Writes the revocation list of a TBSCertList, as `write_crl_tbs` gives it, and of its HSS signature (RFC 5280 section
 /// 5.1.1).
 pub fn write_crl(alloc: Global, tbs: &[u8], signature: &[u8]) -> Result<Bytes, OutOfMemory>
-    ensures written { IfOk result (IsSigned tbs.now signature.now) }
+    ensures written { IfOk result (IsSignedForm tbs.now signature.now) }
     ensures list { (fields : RevocationList) → IsTbsList fields tbs.now
         → IfOk result (λ whole. CrlOf whole (signed_list fields tbs.now signature.now whole)) }
 {

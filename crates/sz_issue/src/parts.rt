@@ -3,8 +3,8 @@
 ghost use Rattle.std.specs.Prelude.{◌≢◌, ◌%◌, ◌∷◌, IfOk, OnOk};
 ghost use Rattle.sz_der.specs.Der.{Der};
 ghost use Rattle.sz_der.specs.Items.{AppendsItem};
-ghost use Rattle.sz_issue.specs.Parts.{Appends, Holds, IsCommonName, IsSigned};
-ghost use Rattle.sz_x509.specs.Certificate.{IsAlgorithm};
+ghost use Rattle.sz_issue.specs.Parts.{Appends, Holds, IsCommonName, IsSignedForm};
+ghost use Rattle.sz_x509.specs.Certificate.{IsHssAlgorithm};
 
 use std::alloc::Global;
 use sz_base::{Bytes, OutOfMemory};
@@ -45,7 +45,7 @@ pub(crate) fn write_holder(
 
 /// Puts the AlgorithmIdentifier of HSS/LMS last (RFC 8708 section 3).
 pub(crate) fn write_algorithm(alloc: Global, out: &mut DerWriter) -> Result<(), OutOfMemory>
-    ensures { OnOk result (Appends IsAlgorithm out.old out.new) }
+    ensures { OnOk result (Appends IsHssAlgorithm out.old out.new) }
 {
     write_holder(alloc, out, SEQUENCE, OBJECT_IDENTIFIER, &HSS_LMS)
 }
@@ -79,7 +79,7 @@ pub(crate) fn write_octets(
 
 /// Writes what is signed, the algorithm and the signature (RFC 5280 sections 4.1 and 5.1).
 pub(crate) fn join_signed(alloc: Global, tbs: &[u8], signature: &[u8]) -> Result<Bytes, OutOfMemory>
-    ensures { IfOk result (IsSigned tbs.now signature.now) }
+    ensures { IfOk result (IsSignedForm tbs.now signature.now) }
 {
     let mut proof = DerWriter::create(alloc)?;
     write_algorithm(alloc, &mut proof)?;

@@ -1,5 +1,6 @@
 pub mod Name
 pub mod Json
+pub mod Bounded
 pub mod Form
 pub mod Member
 pub mod Fault

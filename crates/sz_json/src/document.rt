@@ -5,7 +5,7 @@ ghost use Rattle.serde_json.specs.Data.{depth};
 ghost use Rattle.serde_json.specs.Read.{max_depth};
 ghost use Rattle.serde_json.specs.View.{view};
 ghost use Rattle.serde_json.specs.Written.{compact_text, has_float};
-ghost use Rattle.sz_json.specs.Fault.{IsNoJson};
+ghost use Rattle.sz_json.specs.Fault.{IsNone};
 ghost use Rattle.sz_json.specs.Json.{IsJson};
 
 use crate::{JsonFault, Name, Value};
@@ -16,7 +16,7 @@ use sz_base::{Bytes, OutOfMemory};
 /// the bytes are none.
 pub fn read(alloc: Global, bytes: &[u8]) -> Result<Value, JsonFault>
     ensures ok { IfOk result (λ value. IsJson bytes.now (view value)) }
-    ensures refused { IfErr result (IsNoJson bytes.now) }
+    ensures refused { IfErr result (IsNone IsJson bytes.now) }
 {
     match Value::from_slice(alloc, bytes) {
         Ok(value) => Ok(value),

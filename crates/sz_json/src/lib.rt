@@ -3,6 +3,7 @@
 //! member is asked for by its name and in a form, and a refusal names the member.
 #![tactic(auto)]
 
+mod bounded;
 mod document;
 mod fault;
 mod laws;
@@ -11,6 +12,7 @@ mod name;
 mod times;
 mod writing;
 
+pub use bounded::read_bounded;
 pub use document::{read, write};
 pub use fault::JsonFault;
 pub use laws::{binary_is_base64, times_are_instants};

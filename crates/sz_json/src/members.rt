@@ -4,7 +4,7 @@
 ghost use Rattle.std.specs.Prelude.{◌≡◌, true, false, Ok, Some, IfOk, IfErr, IfSome, IsUtf8, option_and_then, option_map, is_some, MatchOption};
 ghost use Rattle.serde_json.specs.Find.{as_object, get};
 ghost use Rattle.serde_json.specs.View.{view, items_view};
-ghost use Rattle.sz_json.specs.Fault.{fault_of, IsFault};
+ghost use Rattle.sz_json.specs.Fault.{fault_of, IsFault, IsNoWant};
 ghost use Rattle.sz_json.specs.Form.{base64_of, binary_of, flag_of, if_between, list_of, number_of, object_of, port_of, text_of};
 ghost use Rattle.sz_json.specs.Member.{optional, or_fault, required};
 ghost use Rattle.sz_json.specs.Name.{name_text};
@@ -32,6 +32,7 @@ pub fn string<'v>(value: &'v Value, name: Name) -> Result<Option<&'v str>, JsonF
     ensures ok { IfOk result (λ found. optional text_of name (view value.now)
         ≡ Ok (option_map (λ text. text.now) found)) }
     ensures refused { IfErr result (IsFault (fault_of (optional text_of name (view value.now)))) }
+    ensures no_want { IfErr result IsNoWant }
 {
     match member(value, name)? {
         Some(member) => formed(member.as_str(), name),
@@ -69,6 +70,7 @@ pub fn binary(alloc: Global, value: &Value, name: Name) -> Result<Option<Bytes>,
 pub fn flag(value: &Value, name: Name) -> Result<Option<bool>, JsonFault>
     ensures ok { IfOk result (λ found. optional flag_of name (view value.now) ≡ Ok found) }
     ensures refused { IfErr result (IsFault (fault_of (optional flag_of name (view value.now)))) }
+    ensures no_want { IfErr result IsNoWant }
 {
     match member(value, name)? {
         Some(member) => formed(member.as_bool(), name),
@@ -80,6 +82,7 @@ pub fn flag(value: &Value, name: Name) -> Result<Option<bool>, JsonFault>
 pub fn number(value: &Value, name: Name) -> Result<Option<u32>, JsonFault>
     ensures ok { IfOk result (λ found. optional number_of name (view value.now) ≡ Ok found) }
     ensures refused { IfErr result (IsFault (fault_of (optional number_of name (view value.now)))) }
+    ensures no_want { IfErr result IsNoWant }
 {
     match member(value, name)? {
         Some(member) => formed(as_u32(member.as_u64()), name),
@@ -91,6 +94,7 @@ pub fn number(value: &Value, name: Name) -> Result<Option<u32>, JsonFault>
 pub fn port(value: &Value, name: Name) -> Result<Option<u16>, JsonFault>
     ensures ok { IfOk result (λ found. optional port_of name (view value.now) ≡ Ok found) }
     ensures refused { IfErr result (IsFault (fault_of (optional port_of name (view value.now)))) }
+    ensures no_want { IfErr result IsNoWant }
 {
     match member(value, name)? {
         Some(member) => formed(as_port(member.as_u64()), name),
@@ -103,6 +107,7 @@ pub fn object<'v>(value: &'v Value, name: Name) -> Result<Option<&'v Value>, Jso
     ensures ok { IfOk result (λ found. optional object_of name (view value.now)
         ≡ Ok (option_map (λ member. view member.now) found)) }
     ensures refused { IfErr result (IsFault (fault_of (optional object_of name (view value.now)))) }
+    ensures no_want { IfErr result IsNoWant }
 {
     match member(value, name)? {
         Some(member) if member.is_object() => Ok(Some(member)),
@@ -116,6 +121,7 @@ pub fn list<'v>(value: &'v Value, name: Name) -> Result<Option<&'v [Value]>, Jso
     ensures ok { IfOk result (λ found. optional list_of name (view value.now)
         ≡ Ok (option_map (λ items. items_view items.now) found)) }
     ensures refused { IfErr result (IsFault (fault_of (optional list_of name (view value.now)))) }
+    ensures no_want { IfErr result IsNoWant }
 {
     match member(value, name)? {
         Some(member) => match member.as_array() {
@@ -130,6 +136,7 @@ pub fn list<'v>(value: &'v Value, name: Name) -> Result<Option<&'v [Value]>, Jso
 pub fn required_string<'v>(value: &'v Value, name: Name) -> Result<&'v str, JsonFault>
     ensures ok { IfOk result (λ text. required text_of name (view value.now) ≡ Ok text.now) }
     ensures refused { IfErr result (IsFault (fault_of (required text_of name (view value.now)))) }
+    ensures no_want { IfErr result IsNoWant }
 {
     match member(value, name)? {
         Some(member) => needed(member.as_str(), name),
@@ -165,6 +172,7 @@ pub fn required_binary(alloc: Global, value: &Value, name: Name) -> Result<Bytes
 pub fn required_object<'v>(value: &'v Value, name: Name) -> Result<&'v Value, JsonFault>
     ensures ok { IfOk result (λ member. required object_of name (view value.now) ≡ Ok (view member.now)) }
     ensures refused { IfErr result (IsFault (fault_of (required object_of name (view value.now)))) }
+    ensures no_want { IfErr result IsNoWant }
 {
     match member(value, name)? {
         Some(member) if member.is_object() => Ok(member),

@@ -3,7 +3,7 @@
 ghost use Rattle.std.specs.Prelude.{◌≡◌, Ok, IfOk, IfErr, Some, None, option_and_then};
 ghost use Rattle.std.specs.Option.{option_copied};
 ghost use Rattle.serde_json.specs.View.{view};
-ghost use Rattle.sz_json.specs.Fault.{fault_of, IsFault};
+ghost use Rattle.sz_json.specs.Fault.{fault_of, IsFault, IsNoWant};
 ghost use Rattle.sz_json.specs.Form.{date_time_of, seconds_of};
 ghost use Rattle.sz_json.specs.Member.{optional, required};
 
@@ -28,6 +28,7 @@ pub fn date_time(text: &[u8], name: Name) -> Result<Seconds, JsonFault>
 pub fn time(value: &Value, name: Name) -> Result<Option<Seconds>, JsonFault>
     ensures ok { IfOk result (λ found. optional date_time_of name (view value.now) ≡ Ok found) }
     ensures refused { IfErr result (IsFault (fault_of (optional date_time_of name (view value.now)))) }
+    ensures no_want { IfErr result IsNoWant }
 {
     match member(value, name)? {
         Some(member) => formed(in_text(member.as_str()), name),
@@ -39,6 +40,7 @@ pub fn time(value: &Value, name: Name) -> Result<Option<Seconds>, JsonFault>
 pub fn required_time(value: &Value, name: Name) -> Result<Seconds, JsonFault>
     ensures ok { IfOk result (λ seconds. required date_time_of name (view value.now) ≡ Ok seconds) }
     ensures refused { IfErr result (IsFault (fault_of (required date_time_of name (view value.now)))) }
+    ensures no_want { IfErr result IsNoWant }
 {
     match member(value, name)? {
         Some(member) => needed(in_text(member.as_str()), name),

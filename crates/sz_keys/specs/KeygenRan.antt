@@ -1,5 +1,5 @@
 -- What `keygen LEVELS PUBLIC @KEY` comes to, over the disks, the folder and the random bytes before and after.
-use Rattle.std.specs.Prelude.{◌≡◌, ◌⊎◌, ℕ, List, Option, Some, None, Err}
+use Rattle.std.specs.Prelude.{◌≡◌, ◌⊎◌, ℕ, List, Some, None, Err}
 use Rattle.sz_commands.specs.Disks.{disk_under}
 use Rattle.sz_commands.specs.Failure.{LevelsRefused, NoFile}
 use Rattle.sz_disk.specs.Disk.{Seen}

@@ -6,7 +6,7 @@ use Rattle.sz_commands.specs.Failure.{Failure, DiskFault, NotInitialised, Damage
 use Rattle.sz_disk.specs.Disk.{Seen, IsStill, IsSynced, LeavesOnly}
 use Rattle.sz_hss.specs.Signature.{hss_public_of, hss_signature_of}
 use Rattle.sz_lms.specs.Hss.{HssOk}
-use Rattle.sz_signer.specs.Answer.{MeansOldOrAdvanced, ReadsBadKey, Stands}
+use Rattle.sz_signer.specs.Answer.{MeansOldOrAdvanced, ReadsBadKey, StandsForKey}
 use Rattle.sz_signer.specs.KeyDisk.{HoldsKey, advanced, key_capacity, key_place, least_size}
 use Rattle.sz_signer.specs.State.{HasLast, SignerState}
 
@@ -18,7 +18,7 @@ module _ {D : Type 0} (seen : D → Seen) where
   -- The key was found: the disk reads what it read, and every image that a crash may leave means this signer's key.
   pub record IsFound (old found : D) (signer : SignerState) : Type 0 where
     pub synced : IsSynced (seen old) (seen found)
-    pub stands : Stands (seen found) signer
+    pub stands : StandsForKey (seen found) signer
 
   -- Its next leaf number may be handed out: at any moment a crash leaves the key as it was, or with that number spent.
   pub record IsHandingOut (old new : D) (signer : SignerState) : Type 0 where

@@ -27,7 +27,8 @@ most_bytes = 16777216
 
 -- where the folder tells its files, the message is the one at the path, and not too long
 abbrev pub IsMessage : Option FileMap → List ℕ → List ℕ → Type 0
-IsMessage told path message = IfSome told (λ files. (bytes_at files path ≡ Some message) × (length message ≤ most_bytes))
+IsMessage told path message =
+    IfSome told (λ files. (bytes_at files path ≡ Some message) × (length message ≤ most_bytes))
 
 -- the failure says that the file at this path can't be signed
 abbrev pub IsUnsigned : List ℕ → Option FileMap → Failure → Type 0

@@ -1,5 +1,5 @@
 //! A check of a signature whose message is a file, read in pieces.
-ghost use Rattle.std.specs.Prelude.{◌≡◌, ◌↔◌, ◌<◌, ◌≤◌, ℕ, List, [], None, length, IfOk, OnOk, IfErr, IfSome, is_err};
+ghost use Rattle.std.specs.Prelude.{◌≡◌, ◌↔◌, ◌<◌, ℕ, List, [], None, length, IfOk, OnOk, IfErr, IfSome, is_err};
 ghost use Rattle.sz_spec.specs.Cause.{HasCause};
 ghost use Rattle.sz_io.specs.Folder.{readable_at};
 ghost use Rattle.sz_lms.specs.Check.{Checks};

@@ -29,8 +29,8 @@ pub struct SignWords {
 }
 
 /// Signs the file with the next leaf number of the key on the disk under the word, and writes the signature to its
-/// file. Gives the leaf number. FILE is looked at first, then whether there is such a disk, then the key; then the number is
-/// spent, and then the signature is written. Where that fails, the number is spent nevertheless.
+/// file. Gives the leaf number. FILE is looked at first, then whether there is such a disk, then the key; then the
+/// number is spent, and then the signature is written. Where that fails, the number is spent nevertheless.
 pub fn sign<'a, R: Threads + Sync, G: Gate + Sync, D: Disk, F: Folder>(
     rt: &R,
     gate: &G,

@@ -1,4 +1,4 @@
-//! The nodes of a tree, of which the leaves are computed in halves, by as many threads as can be made.
+//! The nodes of a tree, of which the leaves are computed in halves, by as many jobs as there are processors.
 
 ghost use Rattle.std.specs.Prelude.{◌+◌, ◌^◌, ◌<◌, ◌≤◌, IsTrue, IfOk};
 ghost use Rattle.std.specs.Thread.{IsSync};
@@ -7,6 +7,7 @@ ghost use Rattle.sz_lms_tree.specs.Tree.{is_height, is_width};
 ghost use Rattle.sz_lms_tree.specs.View.{tree_secret};
 
 use crate::gate::{Gate, Part};
+use crate::jobs::most_jobs;
 use crate::kept::{push_inner, push_leaves};
 use crate::secrets::Secret;
 use std::alloc::Global;
@@ -34,7 +35,8 @@ fn leaves_in_turn(
     Ok(values)
 }
 
-// So many leaves from one on, the last one first, in halves. Each half enters the gate as it begins.
+// So many leaves from one on, the last one first, in halves, by at most so many jobs. Each half enters the gate as it
+// begins.
 #[cycle(halves)]
 fn leaves_from<R: Threads + Sync, G: Gate + Sync>(
     rt: &R,
@@ -43,6 +45,7 @@ fn leaves_from<R: Threads + Sync, G: Gate + Sync>(
     secret: &Secret,
     from: u32,
     count: u32,
+    jobs: usize,
 ) -> Result<Vec<[u8; 32]>, OutOfMemory>
     requires height { IsTrue (is_height secret.now.height) }
     requires width { IsTrue (is_width secret.now.width) }
@@ -50,19 +53,21 @@ fn leaves_from<R: Threads + Sync, G: Gate + Sync>(
     requires room { from + count < 2 ^ 32 }
     ensures { IfOk result (λ values. AreLeaves (tree_secret secret.now) from count values.items) }
 {
-    if count <= WHOLE {
+    if count <= WHOLE || jobs < 2 {
         return leaves_in_turn(alloc, secret, from, count);
     }
     let low = count / 2;
     let high = count - low;
     let middle = from + low;
+    let few = jobs / 2;
+    let most = jobs - few;
     let left = move || -> Result<Vec<[u8; 32]>, OutOfMemory>
         requires { IsSync R.row × IsSync G.row × IsTrue (is_height secret.now.height)
             × IsTrue (is_width secret.now.width) × (from + low ≤ 2 ^ secret.now.height) × (from + low < 2 ^ 32) }
         ensures { IfOk result (λ values. AreLeaves (tree_secret secret.entry.now) from low values.items) }
     {
         gate.enter(Part::Half);
-        leaves_from(rt, gate, alloc, secret, from, low)
+        leaves_from(rt, gate, alloc, secret, from, low, few)
     };
     let right = move || -> Result<Vec<[u8; 32]>, OutOfMemory>
         requires { IsSync R.row × IsSync G.row × IsTrue (is_height secret.now.height)
@@ -70,7 +75,7 @@ fn leaves_from<R: Threads + Sync, G: Gate + Sync>(
         ensures { IfOk result (λ values. AreLeaves (tree_secret secret.entry.now) middle high values.items) }
     {
         gate.enter(Part::Half);
-        leaves_from(rt, gate, alloc, secret, middle, high)
+        leaves_from(rt, gate, alloc, secret, middle, high, most)
     };
     let (first, second) = join(rt, right, left);
     let mut values = first?;
@@ -90,7 +95,8 @@ pub(crate) fn nodes_by_halves<R: Threads + Sync, G: Gate + Sync>(
     requires width { IsTrue (is_width secret.now.width) }
     ensures { IfOk result (λ nodes. IsKept (tree_secret secret.now) nodes.items) }
 {
-    let mut nodes = leaves_from(rt, gate, alloc, secret, 0, secret.leaf_count())?;
+    let count = secret.leaf_count();
+    let mut nodes = leaves_from(rt, gate, alloc, secret, 0, count, most_jobs(rt))?;
     push_inner(&mut nodes, secret)?;
     Ok(nodes)
 }

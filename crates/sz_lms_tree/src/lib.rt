@@ -4,6 +4,7 @@
 
 mod gate;
 mod halves;
+mod jobs;
 mod kept;
 mod nodes;
 mod public;
@@ -12,6 +13,8 @@ mod signing;
 mod trees;
 
 pub use gate::{Gate, OpenGate, Part};
+pub use jobs::most_jobs;
 pub use nodes::{leaf, root};
+pub use public::public_of;
 pub use secrets::{Secret, child};
 pub use trees::Tree;

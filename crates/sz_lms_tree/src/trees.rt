@@ -51,9 +51,9 @@ impl Tree {
         })
     }
 
-    /// The same tree, with its leaves computed in halves by as many threads as can be made, down to subtrees of 32
-    /// leaves. Each half enters the gate as it begins. While it is computed it takes the memory of the leaves once
-    /// more.
+    /// The same tree, with its leaves computed in halves, down to subtrees of 32 leaves and to as many jobs as
+    /// `most_jobs` gives. Each half enters the gate as it begins. While it is computed it takes the memory of the
+    /// leaves once more.
     pub fn build_halves<R: Threads + Sync, G: Gate + Sync>(
         rt: &R,
         gate: &G,

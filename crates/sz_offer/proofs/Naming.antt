@@ -8,10 +8,10 @@ use Rattle.sz_json.specs.Member.{optional}
 use Rattle.sz_json.specs.declared.name.Name.{Name}
 use Rattle.sz_json.specs.declared.name.Name.TheVariants as name
 use Rattle.sz_json.proofs.Readings.{form_from_optional}
-use Rattle.sz_conveyed.specs.Image.{if_short, IsBootImage, short_text_of}
-use Rattle.sz_conveyed.specs.Onboarding.{IsImageWhere, IsOnboarding}
-use Rattle.sz_conveyed.specs.declared.onboarding.BootImage.{BootImage}
-use Rattle.sz_conveyed.specs.declared.onboarding.Onboarding.{Onboarding}
+use Rattle.sz_artifacts.specs.Image.{if_short, IsBootImage, short_text_of}
+use Rattle.sz_artifacts.specs.Onboarding.{IsImageWhere, IsOnboarding}
+use Rattle.sz_artifacts.specs.declared.conveyed.onboarding.BootImage.{BootImage}
+use Rattle.sz_artifacts.specs.declared.conveyed.onboarding.Onboarding.{Onboarding}
 use Rattle.sz_state.specs.Change.{HasShortNames, longest_name}
 
 at_most : (m n : ℕ) → nat_le m n ≡ true → m ≤ n

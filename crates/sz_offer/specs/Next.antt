@@ -2,8 +2,8 @@
 use Rattle.std.specs.Prelude.{◌≡◌, ◌⊎◌, ℕ, length, Some}
 use Rattle.sz_base.specs.declared.evidence.Evidence.{Evidence}
 use Rattle.sz_base.specs.declared.moment.Moment.{Moment}
-use Rattle.sz_conveyed.specs.declared.onboarding.BootImage.{BootImage}
-use Rattle.sz_conveyed.specs.declared.onboarding.Onboarding.{Onboarding}
+use Rattle.sz_artifacts.specs.declared.conveyed.onboarding.BootImage.{BootImage}
+use Rattle.sz_artifacts.specs.declared.conveyed.onboarding.Onboarding.{Onboarding}
 use Rattle.sz_record.specs.Size.{size_of}
 use Rattle.sz_record.specs.Spelling.{new_version, record_bytes}
 use Rattle.sz_record.specs.declared.device.Device.{Device}

@@ -6,7 +6,7 @@ use Rattle.sz_spec.specs.Told.{WhereTold}
 use Rattle.sz_base.specs.declared.evidence.Evidence.{Evidence}
 use Rattle.sz_base.specs.declared.image.ImageFault.{ImageFault}
 use Rattle.sz_base.specs.declared.moment.Moment.{Moment}
-use Rattle.sz_conveyed.specs.declared.onboarding.Onboarding.{Onboarding}
+use Rattle.sz_artifacts.specs.declared.conveyed.onboarding.Onboarding.{Onboarding}
 use Rattle.sz_disk.specs.Disk.{Seen, IsSettled, TornIn}
 use Rattle.sz_evidence.specs.declared.reason.Reason.{Reason}
 use Rattle.sz_evidence.specs.declared.reason.Reason.TheVariants as reason

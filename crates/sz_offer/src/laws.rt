@@ -4,7 +4,7 @@ ghost use Rattle.std.specs.Prelude.{IfSome};
 ghost use Rattle.sz_base.specs.declared.evidence.Evidence.{Evidence};
 ghost use Rattle.sz_base.specs.declared.identity.Identity.{Identity};
 ghost use Rattle.sz_base.specs.declared.moment.Moment.{Moment};
-ghost use Rattle.sz_conveyed.specs.declared.onboarding.Onboarding.{Onboarding};
+ghost use Rattle.sz_artifacts.specs.declared.conveyed.onboarding.Onboarding.{Onboarding};
 ghost use Rattle.sz_evidence.specs.Authorised.{Authorised};
 ghost use Rattle.sz_state.specs.Change.{HasShortNames};
 

@@ -11,8 +11,8 @@ ghost use Rattle.sz_state.specs.Layout.{space_of};
 
 use crate::Trial;
 use std::alloc::Global;
+use sz_artifacts::Onboarding;
 use sz_base::{Evidence, Failed, Moment, Texts};
-use sz_conveyed::Onboarding;
 use sz_disk::Disk;
 use sz_evidence::Reason;
 use sz_http::{Reading, Side};

@@ -30,8 +30,8 @@ use Rattle.sz_program.specs.Words.{Command, IsOnboard, words_of}
 abbrev pub IsStatus : ℕ → Type 0
 IsStatus status = ((ending : Ending) × (status ≡ number_of ending)) ⊎ (status ≡ output_fault)
 
--- The words are this command, which is no onboard. The files that it reads are there, and so are the disks that it uses,
--- and no object's count rose.
+-- The words are this command, which is no onboard. The files that it reads are there, and so are the disks that it
+-- uses, and no object's count rose.
 pub record IsCalm {D : Type 0} (seen : D → Seen) (line : List (List ℕ)) (command : Command) (before after : Outside D)
     : Type 0 where
   pub is : words_of line ≡ Some command

@@ -1,8 +1,8 @@
 //! The program `sztp` as one function over its outside: words to a command, the command, and its text and status.
 //!
 //! `run` does the command that the words are, over seven objects that are handed in as one `World`, and its contract is
-//! the promise of the whole program: one equation a command, and a cause for each status. The laws say what follows from
-//! that contract alone.
+//! the promise of the whole program: one equation a command, and a cause for each status. The laws say what follows
+//! from that contract alone.
 #![tactic(auto)]
 
 mod command;

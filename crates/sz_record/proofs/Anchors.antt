@@ -8,7 +8,7 @@ use Rattle.std.specs.Int.{w8}
 use Rattle.std.specs.List.{All, flat_map}
 use Rattle.sz_base.specs.Identity.{most_anchor_bytes, most_anchors}
 use Rattle.sz_record.specs.Field.{Field, and_then, behind, counted, followed, in_order, long, number}
-use Rattle.sz_record.specs.Reading.{IsWrong, Takes, TakesNumber}
+use Rattle.sz_record.specs.Reading.{IsWrong, TakesField, TakesNumber}
 use Rattle.sz_record.specs.Spelling.{anchors_bytes, long_bytes}
 use Rattle.sz_record.specs.Stored.{anchors_field}
 use Rattle.sz_record.specs.declared.unread.Wrong.{Wrong}
@@ -44,7 +44,7 @@ going_begun count start = record {
 }
 
 -- one more
-next_told : (k : ℕ) (now own next : List ℕ) → Takes anchor own now next
+next_told : (k : ℕ) (now own next : List ℕ) → TakesField anchor own now next
     → anchors_of (suc k) now ≡ behind (length own) (anchors_of k next)
 unfolding followed
 next_told k now own next took =
@@ -53,7 +53,7 @@ next_told k now own next took =
     ap (λ r. and_then r (anchors_of k) now) took.told ∙ ap (λ s. behind (length own) (anchors_of k s)) rest
 
 going_suc : (count : ℕ) (start : List ℕ) (anchors : List (List ℕ)) (k : ℕ) (now next item : List ℕ)
-    → Going count start anchors (suc k) now → Takes anchor (long_bytes item) now next → length item ≤ most_anchor_bytes
+    → Going count start anchors (suc k) now → TakesField anchor (long_bytes item) now next → length item ≤ most_anchor_bytes
     → Going count start (anchors ++ item ∷ []) k next
 going_suc count start anchors k now next item going took short =
     let done = flat_map long_bytes anchors in
@@ -78,7 +78,7 @@ going_suc count start anchors k now next item going took short =
     }
 
 pub going_on : (count : ℕ) (start : List ℕ) (anchors : List (List ℕ)) (left : ℕ) (now next item : List ℕ)
-    → Going count start anchors left now → 0 < left → Takes anchor (long_bytes item) now next
+    → Going count start anchors left now → 0 < left → TakesField anchor (long_bytes item) now next
     → length item ≤ most_anchor_bytes → Going count start (anchors ++ item ∷ []) (left - 1) next
 going_on count start anchors zero now next item going some took short = absurd (omega arith)
 going_on count start anchors (suc k) now next item going some took short =
@@ -87,7 +87,7 @@ going_on count start anchors (suc k) now next item going some took short =
     (going_suc count start anchors k now next item going took short)
 
 pub going_done : (count : ℕ) (start : List ℕ) (anchors : List (List ℕ)) (left : ℕ) (now : List ℕ)
-    → Going count start anchors left now → left ≡ 0 → Takes (anchors_of count) (flat_map long_bytes anchors) start now
+    → Going count start anchors left now → left ≡ 0 → TakesField (anchors_of count) (flat_map long_bytes anchors) start now
 going_done count start anchors left now going none = record {
   joined = going.joined;
   told =
@@ -119,12 +119,12 @@ going_wrong count start anchors (suc k) now wrong going some h = record {
 
 pub anchors_taken : (count left : ℕ) (old start now : List ℕ) (anchors : List (List ℕ))
     → TakesNumber w8 1 8 (count ∷ []) count old start → Going count start anchors left now → left ≡ 0
-    → Takes anchors_field (anchors_bytes anchors) old now
+    → TakesField anchors_field (anchors_bytes anchors) old now
 unfolding anchors_field anchors_bytes
 anchors_taken count left old start now anchors one going none =
     let done = going_done count start anchors left now going none in
     let all : count ≡ length anchors = omega (arith, going.counted, none) in
-    subst (λ n. Takes (counted 1 most_anchors anchor) (n ∷ flat_map long_bytes anchors) old now) all
+    subst (λ n. TakesField (counted 1 most_anchors anchor) (n ∷ flat_map long_bytes anchors) old now) all
     (takes_number anchors_of one done)
 
 pub anchors_wrong : (count left : ℕ) (old start now : List ℕ) (anchors : List (List ℕ)) (wrong : Wrong)

@@ -4,7 +4,7 @@ use Rattle.std.proofs.lemmas.Bool.{eq-eqb, ne_eqb}
 use Rattle.std.specs.Int.{w8}
 use Rattle.sz_record.specs.Fault.{IsFault}
 use Rattle.sz_record.specs.Field.{number}
-use Rattle.sz_record.specs.Reading.{IsFirstWrong, IsWrong, Takes, TakesNumber}
+use Rattle.sz_record.specs.Reading.{IsFirstWrong, IsWrong, TakesField, TakesNumber}
 use Rattle.sz_record.specs.Spelling.{device_bytes, new_version, old_version, record_bytes}
 use Rattle.sz_record.specs.Stored.{device_field, first_wrong, IsStorable, IsStored, IsWithin, record_field, wrong_in}
 use Rattle.sz_record.specs.declared.device.Device.{Device}
@@ -42,13 +42,13 @@ first_of_wrong space payload wrong h = record {
   };
 }
 
-whole_told : (space : ℕ) (payload own new : List ℕ) → Takes (record_field space) own payload new
+whole_told : (space : ℕ) (payload own new : List ℕ) → TakesField (record_field space) own payload new
     → first_wrong space payload ≡ (let r : Option ℕ = if length own == length payload then None else Some (length own) in r)
 unfolding first_wrong
 whole_told space payload own new took = ap (λ r. wrong_in r payload) took.told
 
 -- bytes are left behind it
-pub first_behind : (space : ℕ) (payload own new : List ℕ) (count : ℕ) → Takes (record_field space) own payload new
+pub first_behind : (space : ℕ) (payload own new : List ℕ) (count : ℕ) → TakesField (record_field space) own payload new
     → length new ≡ count → 0 < count → IsFirstWrong space payload (At count)
 first_behind space payload own new count took size some =
     let sized : length payload ≡ length own + length new =
@@ -67,7 +67,7 @@ first_behind space payload own new count took size some =
     }
 
 -- none is
-pub first_none : (space : ℕ) (payload own new : List ℕ) → Takes (record_field space) own payload new → length new ≡ 0
+pub first_none : (space : ℕ) (payload own new : List ℕ) → TakesField (record_field space) own payload new → length new ≡ 0
     → first_wrong space payload ≡ None
 first_none space payload own new took none =
     let sized : length own ≡ length payload =
@@ -83,7 +83,7 @@ empty (x ∷ xs) is = absurd (omega arith)
 -- a payload that was taken whole
 pub stored_taken : (space version : ℕ) (payload mid new : List ℕ) (device : Device)
     → TakesNumber w8 old_version new_version (version ∷ []) version payload mid
-    → Takes (device_field space version) (device_bytes version device) mid new → length new ≡ 0
+    → TakesField (device_field space version) (device_bytes version device) mid new → length new ≡ 0
     → IsStorable version device → IfSome device.image (IsWithin space) → IsStored space payload device
 unfolding record_bytes
 stored_taken space version payload mid new device one rest none storable within = record {
@@ -105,8 +105,8 @@ stored_taken space version payload mid new device one rest none storable within 
 
 pub record_taken : (space version : ℕ) (payload mid new : List ℕ) (device : Device)
     → TakesNumber w8 old_version new_version (version ∷ []) version payload mid
-    → Takes (device_field space version) (device_bytes version device) mid new
-    → Takes (record_field space) (record_bytes version device) payload new
+    → TakesField (device_field space version) (device_bytes version device) mid new
+    → TakesField (record_field space) (record_bytes version device) payload new
 unfolding record_field record_bytes
 record_taken space version payload mid new device one rest = takes_number (device_field space) one rest
 

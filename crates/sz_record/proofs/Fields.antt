@@ -4,7 +4,7 @@ use Rattle.std.proofs.Math.Seq.{drop-append_seam}
 use Rattle.std.proofs.lemmas.Bool.{le-leb}
 use Rattle.std.specs.Int.{Width, w8, byte_len, from_be_bytes, is_in_range}
 use Rattle.sz_record.specs.Field.{Field, behind, nothing, and_then, followed, number, number_then, tested, passing, optional, where_there}
-use Rattle.sz_record.specs.Reading.{Takes, TakesNumber, IsWrong}
+use Rattle.sz_record.specs.Reading.{TakesField, TakesNumber, IsWrong}
 use Rattle.sz_record.specs.Spelling.{optional_bytes}
 use Rattle.sz_record.specs.declared.unread.Wrong.{Wrong}
 use Rattle.sz_record.specs.declared.unread.Wrong.TheVariants.{At, OutOfMemory}
@@ -17,11 +17,11 @@ counted_on own old new joined = ap (λ (s : List ℕ). length s) joined ∙ leng
 
 -- ---- fields in order
 
-pub takes_none : (left : List ℕ) → Takes nothing [] left left
+pub takes_none : (left : List ℕ) → TakesField nothing [] left left
 takes_none left = record { joined = refl; told = refl }
 
-pub takes_next : {first next : Field} {own others old mid new : List ℕ} → Takes first own old mid
-    → Takes next others mid new → Takes (followed first next) (own ++ others) old new
+pub takes_next : {first next : Field} {own others old mid new : List ℕ} → TakesField first own old mid
+    → TakesField next others mid new → TakesField (followed first next) (own ++ others) old new
 unfolding followed
 takes_next {first} {next} {own} {others} {old} {mid} {new} one rest = record {
   joined = one.joined ∙ ap (λ s. own ++ s) rest.joined ∙ sym (append_assoc own others new);
@@ -43,7 +43,7 @@ wrong_first {first} {left} next h = record {
   };
 }
 
-pub wrong_next : {first next : Field} {own old mid : List ℕ} {wrong : Wrong} → Takes first own old mid
+pub wrong_next : {first next : Field} {own old mid : List ℕ} {wrong : Wrong} → TakesField first own old mid
     → IsWrong next mid wrong → IsWrong (followed first next) old wrong
 unfolding followed
 wrong_next {first} {next} {own} {old} {mid} one h = record {
@@ -90,8 +90,8 @@ number_told {width} {low} {most} {n} {own} {old} {mid} next h =
     ∙ ap (λ k. behind k (next n mid)) (sym h.size)
 
 pub takes_number : {width : Width} {low most n : ℕ} {own old mid others new : List ℕ} (next : ℕ → Field)
-    → TakesNumber width low most own n old mid → Takes (next n) others mid new
-    → Takes (number_then width low most next) (own ++ others) old new
+    → TakesNumber width low most own n old mid → TakesField (next n) others mid new
+    → TakesField (number_then width low most next) (own ++ others) old new
 takes_number {width} {low} {most} {n} {own} {old} {mid} {others} {new} next one rest = record {
   joined = one.joined ∙ ap (λ s. own ++ s) rest.joined ∙ sym (append_assoc own others new);
   told =
@@ -132,7 +132,7 @@ wrong_after_number {width} {low} {most} {n} {own} {old} {mid} next one h = recor
 
 -- a number by itself
 pub takes_alone : {width : Width} {low most n : ℕ} {own old mid : List ℕ} → TakesNumber width low most own n old mid
-    → Takes (number width low most) own old mid
+    → TakesField (number width low most) own old mid
 takes_alone {own = own} {old = old} {mid = mid} one = record {
   joined = one.joined;
   told = number_told (λ _. nothing) one ∙ ap (λ k. let r : Result ℕ ℕ = Ok k in r) (omega arith);
@@ -140,21 +140,21 @@ takes_alone {own = own} {old = old} {mid = mid} one = record {
 
 -- a number of one byte, by itself
 pub takes_as : {n : ℕ} {old new : List ℕ} (k : ℕ) → TakesNumber w8 0 1 (n ∷ []) n old new → n ≡ k
-    → Takes (number w8 0 1) (k ∷ []) old new
-takes_as {n} {old} {new} k one is = subst (λ m. Takes (number w8 0 1) (m ∷ []) old new) is (takes_alone one)
+    → TakesField (number w8 0 1) (k ∷ []) old new
+takes_as {n} {old} {new} k one is = subst (λ m. TakesField (number w8 0 1) (m ∷ []) old new) is (takes_alone one)
 
 -- ---- what may be there
 
 pub takes_absent : {T : Type 0} {n : ℕ} {old new : List ℕ} (field : Field) (spelled : T → List ℕ)
-    → TakesNumber w8 0 1 (n ∷ []) n old new → n ≡ 0 → Takes (optional field) (optional_bytes spelled None) old new
+    → TakesNumber w8 0 1 (n ∷ []) n old new → n ≡ 0 → TakesField (optional field) (optional_bytes spelled None) old new
 unfolding optional_bytes
 takes_absent {T} {n} {old} {new} field spelled one is =
     let zero : TakesNumber w8 0 1 (0 ∷ []) 0 old new = subst (λ k. TakesNumber w8 0 1 (k ∷ []) k old new) is one in
     takes_number (where_there field) zero (takes_none new)
 
 pub takes_present : {T : Type 0} {field : Field} {n : ℕ} {old mid new : List ℕ} (spelled : T → List ℕ) (value : T)
-    → TakesNumber w8 0 1 (n ∷ []) n old mid → n ≢ 0 → Takes field (spelled value) mid new
-    → Takes (optional field) (optional_bytes spelled (Some value)) old new
+    → TakesNumber w8 0 1 (n ∷ []) n old mid → n ≢ 0 → TakesField field (spelled value) mid new
+    → TakesField (optional field) (optional_bytes spelled (Some value)) old new
 unfolding optional_bytes
 takes_present {T} {field} {n} {old} {mid} {new} spelled value one not_zero rest =
     let is : n ≡ 1 = omega (arith, one.below) in

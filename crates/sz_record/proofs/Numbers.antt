@@ -7,7 +7,7 @@ use Rattle.std.proofs.lemmas.Nat.{be_bytes_2, be_bytes_4, be_bytes_8}
 use Rattle.std.specs.Prelude.{FitsSigned}
 use Rattle.std.specs.Int.{Width, w8, w16, w32, w64, byte_len, cast_signed, cast_unsigned, from_be_bytes, to_be_bytes, is_in_range}
 use Rattle.sz_record.specs.Field.{behind, bytes, long, number, number_then, text}
-use Rattle.sz_record.specs.Reading.{Takes, TakesNumber, IsWrong}
+use Rattle.sz_record.specs.Reading.{TakesField, TakesNumber, IsWrong}
 use Rattle.sz_record.specs.Spelling.{long_bytes, text_bytes, time_bytes}
 use Rattle.sz_record.specs.declared.unread.Wrong.{Wrong}
 use Rattle.sz_record.specs.declared.unread.Wrong.TheVariants.{At}
@@ -15,7 +15,7 @@ use Rattle.sz_record.proofs.Fields.{takes_number, wrong_at}
 use Rattle.sz_record.proofs.Told.{Tells, tells_8, tells_16, tells_32, tells_64}
 
 pub bytes_split : (n : ℕ) (old front rest : List ℕ) → n ≤ length old → front ≡ take n old → rest ≡ drop n old
-    → length front ≡ n → Takes (bytes n) front old rest
+    → length front ≡ n → TakesField (bytes n) front old rest
 unfolding bytes
 bytes_split n old front rest enough front_is rest_is size = record {
   joined = sym (take-append-drop n old)
@@ -35,7 +35,7 @@ bytes_short n old short =
 
 -- ---- numbers
 
-taken_number : (width : Width) (low most n : ℕ) (given own old new : List ℕ) → Takes (bytes (byte_len width)) given old new
+taken_number : (width : Width) (low most n : ℕ) (given own old new : List ℕ) → TakesField (bytes (byte_len width)) given old new
     → Tells width own n → own ≡ given → low ≤ n → n ≤ most → TakesNumber width low most own n old new
 taken_number width low most n given own old new took tells same above below =
     let joined : old ≡ own ++ new = took.joined ∙ ap (λ s. s ++ new) (sym same) in
@@ -47,28 +47,28 @@ taken_number width low most n given own old new took tells same above below =
       below = below;
     }
 
-pub taken_16 : (low most n : ℕ) (given old new : List ℕ) → Takes (bytes 2) given old new → length given ≡ 2
+pub taken_16 : (low most n : ℕ) (given old new : List ℕ) → TakesField (bytes 2) given old new → length given ≡ 2
     → ((i : ℕ) → get_or given i 0 < 256) → n ≡ from_be_bytes w16 given → n < 2 ^ 16 → low ≤ n → n ≤ most
     → TakesNumber w16 low most (to_be_bytes w16 n) n old new
 taken_16 low most n given old new took size small is fits above below =
     taken_number w16 low most n given (to_be_bytes w16 n) old new took (tells_16 n fits) (be_bytes_2 given n size small is)
     above below
 
-pub taken_32 : (low most n : ℕ) (given old new : List ℕ) → Takes (bytes 4) given old new → length given ≡ 4
+pub taken_32 : (low most n : ℕ) (given old new : List ℕ) → TakesField (bytes 4) given old new → length given ≡ 4
     → ((i : ℕ) → get_or given i 0 < 256) → n ≡ from_be_bytes w32 given → n < 2 ^ 32 → low ≤ n → n ≤ most
     → TakesNumber w32 low most (to_be_bytes w32 n) n old new
 taken_32 low most n given old new took size small is fits above below =
     taken_number w32 low most n given (to_be_bytes w32 n) old new took (tells_32 n fits) (be_bytes_4 given n size small is)
     above below
 
-pub taken_64 : (low most n : ℕ) (given old new : List ℕ) → Takes (bytes 8) given old new → length given ≡ 8
+pub taken_64 : (low most n : ℕ) (given old new : List ℕ) → TakesField (bytes 8) given old new → length given ≡ 8
     → ((i : ℕ) → get_or given i 0 < 256) → n ≡ from_be_bytes w64 given → n < 2 ^ 64 → low ≤ n → n ≤ most
     → TakesNumber w64 low most (to_be_bytes w64 n) n old new
 taken_64 low most n given old new took size small is fits above below =
     taken_number w64 low most n given (to_be_bytes w64 n) old new took (tells_64 n fits) (be_bytes_8 given n size small is)
     above below
 
-pub taken_8 : (low most n : ℕ) (given old new : List ℕ) → Takes (bytes 1) given old new → n ∷ [] ≡ given → low ≤ n
+pub taken_8 : (low most n : ℕ) (given old new : List ℕ) → TakesField (bytes 1) given old new → n ∷ [] ≡ given → low ≤ n
     → n ≤ most → TakesNumber w8 low most (n ∷ []) n old new
 taken_8 low most n given old new took is above below =
     taken_number w8 low most n given (n ∷ []) old new took (tells_8 n) is above below
@@ -89,7 +89,7 @@ fails there within told end a b =
     ap (λ x. tests x within told end) a ∙ ap (λ y. tests true y told end) b
 
 -- a number out of its bounds
-pub number_out : (width : Width) (low most n : ℕ) (given own old new : List ℕ) → Takes (bytes (byte_len width)) given old new
+pub number_out : (width : Width) (low most n : ℕ) (given own old new : List ℕ) → TakesField (bytes (byte_len width)) given old new
     → Tells width own n → own ≡ given → (low ≤ n → n ≤ most → ⊥) → IsWrong (number width low most) old (At (length old))
 unfolding number_then
 number_out width low most n given own old new took tells same out =
@@ -115,26 +115,26 @@ single [] is = absurd (omega arith)
 single (x ∷ []) is = refl
 single (x ∷ y ∷ s) is = absurd (omega arith)
 
-pub out_8 : (low most n : ℕ) (given old new : List ℕ) → Takes (bytes 1) given old new → n ∷ [] ≡ given
+pub out_8 : (low most n : ℕ) (given old new : List ℕ) → TakesField (bytes 1) given old new → n ∷ [] ≡ given
     → ((low ≤ n) × (most < n)) ⊎ (n < low) → IsWrong (number w8 low most) old (At (length old))
 out_8 low most n given old new took is out =
     number_out w8 low most n given (n ∷ []) old new took (tells_8 n) is (outside low most n out)
 
-pub out_16 : (low most n : ℕ) (given old new : List ℕ) → Takes (bytes 2) given old new → length given ≡ 2
+pub out_16 : (low most n : ℕ) (given old new : List ℕ) → TakesField (bytes 2) given old new → length given ≡ 2
     → ((i : ℕ) → get_or given i 0 < 256) → n ≡ from_be_bytes w16 given → n < 2 ^ 16 → ((low ≤ n) × (most < n)) ⊎ (n < low)
     → IsWrong (number w16 low most) old (At (length old))
 out_16 low most n given old new took size small is fits out =
     number_out w16 low most n given (to_be_bytes w16 n) old new took (tells_16 n fits) (be_bytes_2 given n size small is)
     (outside low most n out)
 
-pub out_32 : (most n : ℕ) (given old new : List ℕ) → Takes (bytes 4) given old new → length given ≡ 4
+pub out_32 : (most n : ℕ) (given old new : List ℕ) → TakesField (bytes 4) given old new → length given ≡ 4
     → ((i : ℕ) → get_or given i 0 < 256) → n ≡ from_be_bytes w32 given → n < 2 ^ 32 → most < n
     → IsWrong (number w32 0 most) old (At (length old))
 out_32 most n given old new took size small is fits over =
     number_out w32 0 most n given (to_be_bytes w32 n) old new took (tells_32 n fits) (be_bytes_4 given n size small is)
     (λ x y. omega arith)
 
-pub out_64 : (most n : ℕ) (given old new : List ℕ) → Takes (bytes 8) given old new → length given ≡ 8
+pub out_64 : (most n : ℕ) (given old new : List ℕ) → TakesField (bytes 8) given old new → length given ≡ 8
     → ((i : ℕ) → get_or given i 0 < 256) → n ≡ from_be_bytes w64 given → n < 2 ^ 64 → most < n
     → IsWrong (number w64 0 most) old (At (length old))
 out_64 most n given old new took size small is fits over =
@@ -160,9 +160,9 @@ number_short width low most old wrong h = record {
 }
 
 -- eight bytes are those of the time that they tell
-pub time_taken : (n : ℕ) (given old new : List ℕ) (seconds : ℤ) → Takes (bytes 8) given old new → length given ≡ 8
+pub time_taken : (n : ℕ) (given old new : List ℕ) (seconds : ℤ) → TakesField (bytes 8) given old new → length given ≡ 8
     → ((i : ℕ) → get_or given i 0 < 256) → n ≡ from_be_bytes w64 given → n < 2 ^ 64 → seconds ≡ cast_signed w64 n
-    → FitsSigned w64 seconds → Takes (bytes 8) (time_bytes (cast_signed w64 (cast_unsigned w64 seconds))) old new
+    → FitsSigned w64 seconds → TakesField (bytes 8) (time_bytes (cast_signed w64 (cast_unsigned w64 seconds))) old new
 unfolding time_bytes
 time_taken n given old new seconds took size small told word is fits =
     let unsigned : cast_unsigned w64 seconds ≡ n = ap (λ z. cast_unsigned w64 z) is ∙ of_z-to_z w64 n word in
@@ -171,7 +171,7 @@ time_taken n given old new seconds took size small told word is fits =
     sym (ap (λ z. to_be_bytes w64 (cast_unsigned w64 z)) back
     ∙ ap (λ k. to_be_bytes w64 k) unsigned
     ∙ be_bytes_8 given n size small told) in
-    subst (λ s. Takes (bytes 8) s old new) same took
+    subst (λ s. TakesField (bytes 8) s old new) same took
 
 pub time_same : (seconds : ℤ) → FitsSigned w64 seconds
     → to_be_bytes w64 (cast_unsigned w64 (cast_signed w64 (cast_unsigned w64 seconds))) ≡ time_bytes seconds
@@ -180,18 +180,18 @@ time_same seconds fits = ap (λ z. to_be_bytes w64 (cast_unsigned w64 z)) (to_z-
 
 -- bytes behind their number
 pub text_taken : (low most size : ℕ) (read old mid new : List ℕ)
-    → TakesNumber w16 low most (to_be_bytes w16 size) size old mid → Takes (bytes size) read mid new → length read ≡ size
-    → Takes (text low most) (text_bytes read) old new
+    → TakesNumber w16 low most (to_be_bytes w16 size) size old mid → TakesField (bytes size) read mid new → length read ≡ size
+    → TakesField (text low most) (text_bytes read) old new
 unfolding text_bytes
 text_taken low most size read old mid new one rest is =
-    subst (λ n. Takes (text low most) (to_be_bytes w16 n ++ read) old new) (sym is) (takes_number bytes one rest)
+    subst (λ n. TakesField (text low most) (to_be_bytes w16 n ++ read) old new) (sym is) (takes_number bytes one rest)
 
 pub long_taken : (most size : ℕ) (read old mid new : List ℕ)
-    → TakesNumber w32 0 most (to_be_bytes w32 size) size old mid → Takes (bytes size) read mid new → length read ≡ size
-    → Takes (long most) (long_bytes read) old new
+    → TakesNumber w32 0 most (to_be_bytes w32 size) size old mid → TakesField (bytes size) read mid new → length read ≡ size
+    → TakesField (long most) (long_bytes read) old new
 unfolding long_bytes
 long_taken most size read old mid new one rest is =
-    subst (λ n. Takes (long most) (to_be_bytes w32 n ++ read) old new) (sym is) (takes_number bytes one rest)
+    subst (λ n. TakesField (long most) (to_be_bytes w32 n ++ read) old new) (sym is) (takes_number bytes one rest)
 
 pub ok_both : {T E : Type 0} (r : Result T E) (P Q R : T → Type 0) → ((v : T) → P v → Q v → R v) → IfOk r P → IfOk r Q
     → IfOk r R

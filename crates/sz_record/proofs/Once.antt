@@ -14,8 +14,8 @@ use Rattle.sz_base.specs.declared.evidence.Evidence.{Evidence}
 use Rattle.sz_base.specs.declared.identity.Identity.{Identity}
 use Rattle.sz_base.specs.declared.moment.Moment.{Moment}
 use Rattle.sz_base.specs.declared.moment.Seconds.{Seconds}
-use Rattle.sz_conveyed.specs.declared.onboarding.Handling.{Handling}
-use Rattle.sz_conveyed.specs.declared.onboarding.Handling.TheVariants.{Merge, Replace}
+use Rattle.sz_artifacts.specs.declared.conveyed.onboarding.Handling.{Handling}
+use Rattle.sz_artifacts.specs.declared.conveyed.onboarding.Handling.TheVariants.{Merge, Replace}
 use Rattle.sz_record.specs.Field.{longest}
 use Rattle.sz_record.specs.Spelling.{old_version, optional_bytes, text_bytes, long_bytes, anchors_bytes, identity_bytes, time_bytes, nonce_bytes, moment_bytes, evidence_bytes, image_bytes, handling_number, committed_bytes, device_bytes, record_bytes}
 use Rattle.sz_record.specs.Stored.{IsStorableMoment, IsStorableEvidence, IsStorableImage, IsStorableCommitted, IsStorable, IsWithin, IsStored, HasMomentWidths, HasImageWidths, HasWidths}

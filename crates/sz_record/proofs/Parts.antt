@@ -9,10 +9,10 @@ use Rattle.sz_base.specs.Serial.{IsSerial, is_serial_byte}
 use Rattle.sz_base.specs.declared.evidence.Evidence.{Evidence}
 use Rattle.sz_base.specs.declared.identity.Identity.{Identity}
 use Rattle.sz_base.specs.declared.moment.Moment.{Moment}
-use Rattle.sz_conveyed.specs.declared.onboarding.Handling.{Handling}
-use Rattle.sz_conveyed.specs.declared.onboarding.Handling.TheVariants.{Merge, Replace}
+use Rattle.sz_artifacts.specs.declared.conveyed.onboarding.Handling.{Handling}
+use Rattle.sz_artifacts.specs.declared.conveyed.onboarding.Handling.TheVariants.{Merge, Replace}
 use Rattle.sz_record.specs.Field.{nothing, bytes, number, passing, tested, text, long, longest, optional}
-use Rattle.sz_record.specs.Reading.{IsWrong, Takes}
+use Rattle.sz_record.specs.Reading.{IsWrong, TakesField}
 use Rattle.sz_record.specs.Spelling.{old_version, new_version, optional_bytes, text_bytes, long_bytes, anchors_bytes, identity_bytes, time_bytes, nonce_bytes, moment_bytes, evidence_bytes, image_bytes, handling_number, committed_bytes, device_bytes, record_bytes}
 use Rattle.sz_record.specs.Stored.{is_serial_text, serial_field, anchors_field, identity_field, nonce_field, moment_field, evidence_field, image_field, committed_field, device_field, record_field, wrong_in, first_wrong, IsLong, IsStorableMoment, IsStorableEvidence, IsStorableImage, IsStorableCommitted, IsStorable, IsWithin, IsStored, HasMomentWidths, HasImageWidths, HasWidths}
 use Rattle.sz_record.specs.declared.device.Committed.{Committed}
@@ -54,10 +54,10 @@ told_serial serial is =
           };
     }
 
-pub serial_taken : (serial read : List ℕ) (old new : List ℕ) → Takes (text 1 64) (text_bytes read) old new
-    → serial ≡ read → IsSerial read → Takes serial_field (text_bytes serial) old new
+pub serial_taken : (serial read : List ℕ) (old new : List ℕ) → TakesField (text 1 64) (text_bytes read) old new
+    → serial ≡ read → IsSerial read → TakesField serial_field (text_bytes serial) old new
 serial_taken serial read old new took same is =
-    subst (λ s. Takes serial_field (text_bytes s) old new) (sym same) ((told_serial read is).takes old new took.joined)
+    subst (λ s. TakesField serial_field (text_bytes s) old new) (sym same) ((told_serial read is).takes old new took.joined)
 
 serial_of : (read : List ℕ) → 1 ≤ length read → length read ≤ 64 → is_serial_text (text_bytes read) ≡ true → IsSerial read
 unfolding text_bytes
@@ -79,7 +79,7 @@ serial_of read some most passes =
     true-not-false is = cc is
 
 -- a text of the right length that is no serial number
-pub serial_wrong : (read : List ℕ) (old new : List ℕ) → Takes (text 1 64) (text_bytes read) old new → 1 ≤ length read
+pub serial_wrong : (read : List ℕ) (old new : List ℕ) → TakesField (text 1 64) (text_bytes read) old new → 1 ≤ length read
     → length read ≤ 64 → (IsSerial read → ⊥) → IsWrong serial_field old (At (length old))
 unfolding serial_field passing
 serial_wrong read old new took some most none =
@@ -127,16 +127,16 @@ told_nonce version nonce wide =
       | false ↦ told_optional (bytes 16) (λ drawn. drawn) nonce (some_each nonce (λ n size. told_bytes 16 n size) wide)
     ]
 
-pub nonce_older : (version : ℕ) (left : List ℕ) → version ≡ 1 → Takes (nonce_field version) (nonce_bytes version None) left left
+pub nonce_older : (version : ℕ) (left : List ℕ) → version ≡ 1 → TakesField (nonce_field version) (nonce_bytes version None) left left
 unfolding nonce_field nonce_bytes
-nonce_older version left is = subst (λ v. Takes (nonce_field v) (nonce_bytes v None) left left) (sym is) (takes_none left)
+nonce_older version left is = subst (λ v. TakesField (nonce_field v) (nonce_bytes v None) left left) (sym is) (takes_none left)
 
 pub nonce_newer : (version : ℕ) (nonce : Option (List ℕ)) (old new : List ℕ) → (version ≡ 1 → ⊥)
-    → Takes (optional (bytes 16)) (optional_bytes (λ drawn. drawn) nonce) old new
-    → Takes (nonce_field version) (nonce_bytes version nonce) old new
+    → TakesField (optional (bytes 16)) (optional_bytes (λ drawn. drawn) nonce) old new
+    → TakesField (nonce_field version) (nonce_bytes version nonce) old new
 unfolding nonce_field nonce_bytes
 nonce_newer version nonce old new newer took =
-    subst (λ (b : Bool). Takes (if b then nothing else optional (bytes 16))
+    subst (λ (b : Bool). TakesField (if b then nothing else optional (bytes 16))
     (if b then [] else optional_bytes (λ drawn. drawn) nonce) old new)
     (sym (ne_eqb version 1 newer)) took
 

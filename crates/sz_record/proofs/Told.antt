@@ -7,16 +7,16 @@ use Rattle.std.proofs.lemmas.Nat.{from_be_bytes-to_be_bytes_2, from_be_bytes-to_
 use Rattle.std.specs.Int.{Width, w8, w16, w32, w64, byte_len, from_be_bytes, to_be_bytes}
 use Rattle.std.specs.List.{All, flat_map}
 use Rattle.sz_record.specs.Field.{Field, nothing, bytes, in_order, followed, number, number_then, optional, where_there, text, long, longest}
-use Rattle.sz_record.specs.Reading.{Takes, TakesNumber}
+use Rattle.sz_record.specs.Reading.{TakesField, TakesNumber}
 use Rattle.sz_record.specs.Spelling.{optional_bytes, text_bytes, long_bytes}
 use Rattle.sz_record.proofs.Fields.{takes_none, takes_next, takes_number, number_told}
 
 -- bytes that a field takes wherever they stand at the front
 pub record Told (field : Field) (own : List ℕ) : Type 0 where
-  pub takes : (old new : List ℕ) → old ≡ own ++ new → Takes field own old new
+  pub takes : (old new : List ℕ) → old ≡ own ++ new → TakesField field own old new
 
 pub told_none : Told nothing []
-told_none = record { takes = λ old new is. subst (λ s. Takes nothing [] s new) (sym is) (takes_none new) }
+told_none = record { takes = λ old new is. subst (λ s. TakesField nothing [] s new) (sym is) (takes_none new) }
 
 pub told_next : {first next : Field} {own others : List ℕ} → Told first own → Told next others
     → Told (followed first next) (own ++ others)

@@ -7,7 +7,7 @@ use Rattle.sz_record.specs.declared.unread.Wrong.{Wrong}
 use Rattle.sz_record.specs.declared.unread.Wrong.TheVariants.{At}
 
 -- the field at the front is taken, whose bytes these are
-pub record Takes (field : Field) (own old new : List ℕ) : Type 0 where
+pub record TakesField (field : Field) (own old new : List ℕ) : Type 0 where
   pub joined : old ≡ own ++ new
   pub told : field old ≡ Ok (length own)
 

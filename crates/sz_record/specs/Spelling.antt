@@ -5,8 +5,8 @@ use Rattle.std.specs.List.{concat, flat_map}
 use Rattle.sz_base.specs.declared.evidence.Evidence.{Evidence}
 use Rattle.sz_base.specs.declared.identity.Identity.{Identity}
 use Rattle.sz_base.specs.declared.moment.Moment.{Moment}
-use Rattle.sz_conveyed.specs.declared.onboarding.Handling.{Handling}
-use Rattle.sz_conveyed.specs.declared.onboarding.Handling.TheVariants.{Merge, Replace}
+use Rattle.sz_artifacts.specs.declared.conveyed.onboarding.Handling.{Handling}
+use Rattle.sz_artifacts.specs.declared.conveyed.onboarding.Handling.TheVariants.{Merge, Replace}
 use Rattle.sz_record.specs.declared.device.Committed.{Committed}
 use Rattle.sz_record.specs.declared.device.Device.{Device}
 use Rattle.sz_record.specs.declared.device.Image.{Image}

@@ -1,7 +1,7 @@
 //! A device, as a value.
 
+use sz_artifacts::Handling;
 use sz_base::{Bytes, Evidence, Identity, Moment, Text};
-use sz_conveyed::Handling;
 
 /// What a device keeps of itself.
 #[derive(Debug, Drop)]

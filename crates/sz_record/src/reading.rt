@@ -7,15 +7,15 @@ ghost use Rattle.sz_base.specs.Identity.{IsWhole, most_anchor_bytes};
 ghost use Rattle.sz_base.specs.Serial.{IsSerial};
 ghost use Rattle.sz_record.specs.Fault.{IsFault};
 ghost use Rattle.sz_record.specs.Field.{bytes, long, longest, number, optional, text};
-ghost use Rattle.sz_record.specs.Reading.{IsFirstWrong, IsWrong, Takes};
+ghost use Rattle.sz_record.specs.Reading.{IsFirstWrong, IsWrong, TakesField};
 ghost use Rattle.sz_record.specs.Spelling.{anchors_bytes, committed_bytes, device_bytes, evidence_bytes, handling_number, identity_bytes, image_bytes, long_bytes, moment_bytes, nonce_bytes, optional_bytes, text_bytes, time_bytes};
 ghost use Rattle.sz_record.specs.Stored.{anchors_field, committed_field, device_field, evidence_field, first_wrong, identity_field, image_field, IsLong, IsStorable, IsStorableCommitted, IsStorableEvidence, IsStorableImage, IsStorableMoment, IsStored, IsWithin, moment_field, nonce_field, serial_field};
 
 use crate::unread::{Unread, Wrong};
 use crate::{Committed, Device, Image, RecordFault};
 use std::alloc::Global;
+use sz_artifacts::Handling;
 use sz_base::{BaseFault, Bytes, Certs, Evidence, Identity, Moment, Seconds, Serial, Text};
-use sz_conveyed::Handling;
 
 /// The version that is written.
 pub(crate) const NEW_VERSION: u8 = 2;
@@ -33,7 +33,7 @@ const MOST_ANCHOR_BYTES: u32 = 65_536;
 
 /// Reads the stored form of a device of version 1 or 2, where each image area has `space` bytes. `BadRecord` tells the
 /// first wrong byte: a byte that no device of these versions has there, the first byte of a field that is out of its
-/// form or its bounds, the first byte behind the form, or the end where the payload ends too early. Takes memory for
+/// form or its bounds, the first byte behind the form, or the end where the payload ends too early. TakesField memory for
 /// the fields alone, each once its bytes are there.
 pub fn read(alloc: Global, space: u64, payload: &[u8]) -> Result<Device, RecordFault>
     ensures ok { IfOk result (IsStored space payload.now) }
@@ -92,7 +92,7 @@ fn read_device(
     space: u64,
     version: u8,
 ) -> Result<Device, Wrong>
-    ensures taken { IfOk result (λ read. Takes (device_field space version) (device_bytes version read)
+    ensures taken { IfOk result (λ read. TakesField (device_field space version) (device_bytes version read)
         unread.old.left.now unread.new.left.now) }
     ensures storable { IfOk result (IsStorable version) }
     ensures within { IfOk result (λ read. IfSome read.image (IsWithin space)) }
@@ -113,7 +113,7 @@ fn read_device(
 }
 
 fn read_identity(alloc: Global, unread: &mut Unread<'_>) -> Result<Identity, Wrong>
-    ensures taken { IfOk result (λ read. Takes identity_field (identity_bytes read)
+    ensures taken { IfOk result (λ read. TakesField identity_field (identity_bytes read)
         unread.old.left.now unread.new.left.now) }
     ensures whole { IfOk result IsWhole }
     ensures wrong { IfErr result (IsWrong identity_field unread.old.left.now) }
@@ -131,7 +131,7 @@ fn read_identity(alloc: Global, unread: &mut Unread<'_>) -> Result<Identity, Wro
 }
 
 fn read_serial(alloc: Global, unread: &mut Unread<'_>) -> Result<Serial, Wrong>
-    ensures taken { IfOk result (λ read. Takes serial_field (text_bytes read)
+    ensures taken { IfOk result (λ read. TakesField serial_field (text_bytes read)
         unread.old.left.now unread.new.left.now) }
     ensures form { IfOk result (λ read. IsSerial read) }
     ensures wrong { IfErr result (IsWrong serial_field unread.old.left.now) }
@@ -147,7 +147,7 @@ fn read_serial(alloc: Global, unread: &mut Unread<'_>) -> Result<Serial, Wrong>
 
 // a text of at most so many bytes
 fn read_text(alloc: Global, unread: &mut Unread<'_>, most: u16) -> Result<Text, Wrong>
-    ensures taken { IfOk result (λ read. Takes (text 0 most) (text_bytes read)
+    ensures taken { IfOk result (λ read. TakesField (text 0 most) (text_bytes read)
         unread.old.left.now unread.new.left.now) }
     ensures most { IfOk result (λ read. length read ≤ most) }
     ensures wrong { IfErr result (IsWrong (text 0 most) unread.old.left.now) }
@@ -157,7 +157,7 @@ fn read_text(alloc: Global, unread: &mut Unread<'_>, most: u16) -> Result<Text, 
 }
 
 fn read_anchors(alloc: Global, unread: &mut Unread<'_>) -> Result<Certs, Wrong>
-    ensures taken { IfOk result (λ read. Takes anchors_field (anchors_bytes read)
+    ensures taken { IfOk result (λ read. TakesField anchors_field (anchors_bytes read)
         unread.old.left.now unread.new.left.now) }
     ensures some { IfOk result (λ read. 1 ≤ length read) }
     ensures most { IfOk result (λ read. length read ≤ MOST_ANCHORS) }
@@ -177,7 +177,7 @@ fn read_anchors(alloc: Global, unread: &mut Unread<'_>) -> Result<Certs, Wrong>
 
 // bytes of at most this number
 fn read_long(alloc: Global, unread: &mut Unread<'_>, most: u32) -> Result<Bytes, Wrong>
-    ensures taken { IfOk result (λ read. Takes (long most) (long_bytes read)
+    ensures taken { IfOk result (λ read. TakesField (long most) (long_bytes read)
         unread.old.left.now unread.new.left.now) }
     ensures most { IfOk result (λ read. length read ≤ most) }
     ensures wrong { IfErr result (IsWrong (long most) unread.old.left.now) }
@@ -187,7 +187,7 @@ fn read_long(alloc: Global, unread: &mut Unread<'_>, most: u32) -> Result<Bytes,
 }
 
 fn read_optional_long(alloc: Global, unread: &mut Unread<'_>) -> Result<Option<Bytes>, Wrong>
-    ensures taken { IfOk result (λ read. Takes (optional (long longest)) (optional_bytes long_bytes read)
+    ensures taken { IfOk result (λ read. TakesField (optional (long longest)) (optional_bytes long_bytes read)
         unread.old.left.now unread.new.left.now) }
     ensures most { IfOk result (λ read. IfSome read IsLong) }
     ensures wrong { IfErr result (IsWrong (optional (long longest)) unread.old.left.now) }
@@ -205,7 +205,7 @@ fn read_optional_image(
     space: u64,
     version: u8,
 ) -> Result<Option<Image>, Wrong>
-    ensures taken { IfOk result (λ read. Takes (optional (image_field space version))
+    ensures taken { IfOk result (λ read. TakesField (optional (image_field space version))
         (optional_bytes (image_bytes version) read) unread.old.left.now unread.new.left.now) }
     ensures storable { IfOk result (λ read. IfSome read (IsStorableImage version)) }
     ensures within { IfOk result (λ read. IfSome read (IsWithin space)) }
@@ -224,7 +224,7 @@ fn read_image(
     space: u64,
     version: u8,
 ) -> Result<Image, Wrong>
-    ensures taken { IfOk result (λ read. Takes (image_field space version) (image_bytes version read)
+    ensures taken { IfOk result (λ read. TakesField (image_field space version) (image_bytes version read)
         unread.old.left.now unread.new.left.now) }
     ensures storable { IfOk result (IsStorableImage version) }
     ensures within { IfOk result (IsWithin space) }
@@ -249,7 +249,7 @@ fn read_optional_committed(
     unread: &mut Unread<'_>,
     version: u8,
 ) -> Result<Option<Committed>, Wrong>
-    ensures taken { IfOk result (λ read. Takes (optional (committed_field version))
+    ensures taken { IfOk result (λ read. TakesField (optional (committed_field version))
         (optional_bytes (committed_bytes version) read) unread.old.left.now unread.new.left.now) }
     ensures storable { IfOk result (λ read. IfSome read (IsStorableCommitted version)) }
     ensures wrong { IfErr result (IsWrong (optional (committed_field version)) unread.old.left.now) }
@@ -262,7 +262,7 @@ fn read_optional_committed(
 }
 
 fn read_committed(alloc: Global, unread: &mut Unread<'_>, version: u8) -> Result<Committed, Wrong>
-    ensures taken { IfOk result (λ read. Takes (committed_field version) (committed_bytes version read)
+    ensures taken { IfOk result (λ read. TakesField (committed_field version) (committed_bytes version read)
         unread.old.left.now unread.new.left.now) }
     ensures storable { IfOk result (IsStorableCommitted version) }
     ensures wrong { IfErr result (IsWrong (committed_field version) unread.old.left.now) }
@@ -284,7 +284,7 @@ fn read_committed(alloc: Global, unread: &mut Unread<'_>, version: u8) -> Result
 }
 
 fn read_handling(unread: &mut Unread<'_>) -> Result<Handling, Wrong>
-    ensures taken { IfOk result (λ read. Takes (number w8 0 1) (handling_number read ∷ [])
+    ensures taken { IfOk result (λ read. TakesField (number w8 0 1) (handling_number read ∷ [])
         unread.old.left.now unread.new.left.now) }
     ensures wrong { IfErr result (IsWrong (number w8 0 1) unread.old.left.now) }
 {
@@ -297,7 +297,7 @@ fn read_handling(unread: &mut Unread<'_>) -> Result<Handling, Wrong>
 }
 
 fn read_evidence(alloc: Global, unread: &mut Unread<'_>) -> Result<Evidence, Wrong>
-    ensures taken { IfOk result (λ read. Takes evidence_field (evidence_bytes read)
+    ensures taken { IfOk result (λ read. TakesField evidence_field (evidence_bytes read)
         unread.old.left.now unread.new.left.now) }
     ensures storable { IfOk result IsStorableEvidence }
     ensures wrong { IfErr result (IsWrong evidence_field unread.old.left.now) }
@@ -309,7 +309,7 @@ fn read_evidence(alloc: Global, unread: &mut Unread<'_>) -> Result<Evidence, Wro
 }
 
 fn read_moment(unread: &mut Unread<'_>, version: u8) -> Result<Moment, Wrong>
-    ensures taken { IfOk result (λ read. Takes (moment_field version) (moment_bytes version read)
+    ensures taken { IfOk result (λ read. TakesField (moment_field version) (moment_bytes version read)
         unread.old.left.now unread.new.left.now) }
     ensures storable { IfOk result (IsStorableMoment version) }
     ensures wrong { IfErr result (IsWrong (moment_field version) unread.old.left.now) }
@@ -320,7 +320,7 @@ fn read_moment(unread: &mut Unread<'_>, version: u8) -> Result<Moment, Wrong>
 }
 
 fn read_time(unread: &mut Unread<'_>) -> Result<Seconds, Wrong>
-    ensures taken { IfOk result (λ read. Takes (bytes 8) (time_bytes read.0)
+    ensures taken { IfOk result (λ read. TakesField (bytes 8) (time_bytes read.0)
         unread.old.left.now unread.new.left.now) }
     ensures wrong { IfErr result (IsWrong (bytes 8) unread.old.left.now) }
 {
@@ -330,7 +330,7 @@ fn read_time(unread: &mut Unread<'_>) -> Result<Seconds, Wrong>
 
 // none in the older version
 fn read_nonce(unread: &mut Unread<'_>, version: u8) -> Result<Option<[u8; 16]>, Wrong>
-    ensures taken { IfOk result (λ read. Takes (nonce_field version) (nonce_bytes version read)
+    ensures taken { IfOk result (λ read. TakesField (nonce_field version) (nonce_bytes version read)
         unread.old.left.now unread.new.left.now) }
     ensures storable { IfOk result (λ read. version ≡ OLD_VERSION → read ≡ None) }
     ensures wrong { IfErr result (IsWrong (nonce_field version) unread.old.left.now) }
@@ -342,7 +342,7 @@ fn read_nonce(unread: &mut Unread<'_>, version: u8) -> Result<Option<[u8; 16]>, 
 }
 
 fn read_optional_nonce(unread: &mut Unread<'_>) -> Result<Option<[u8; 16]>, Wrong>
-    ensures taken { IfOk result (λ read. Takes (optional (bytes 16)) (optional_bytes (λ nonce. nonce) read)
+    ensures taken { IfOk result (λ read. TakesField (optional (bytes 16)) (optional_bytes (λ nonce. nonce) read)
         unread.old.left.now unread.new.left.now) }
     ensures wrong { IfErr result (IsWrong (optional (bytes 16)) unread.old.left.now) }
 {

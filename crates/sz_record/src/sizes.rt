@@ -1,7 +1,7 @@
 //! How long stored forms are, without making one.
 
 ghost use Rattle.std.specs.Prelude.{◌≡◌, length, sum, Some};
-ghost use Rattle.sz_conveyed.specs.declared.onboarding.Handling.{Handling as SomeHandling};
+ghost use Rattle.sz_artifacts.specs.declared.conveyed.onboarding.Handling.{Handling as SomeHandling};
 ghost use Rattle.sz_record.specs.Size.{capped, size_of};
 ghost use Rattle.sz_record.specs.Spelling.{anchors_bytes, committed_bytes, evidence_bytes, identity_bytes, image_bytes, long_bytes, moment_bytes, new_version, optional_bytes, record_bytes, text_bytes};
 ghost use Rattle.sz_record.specs.declared.device.Image.{Image as SomeImage};

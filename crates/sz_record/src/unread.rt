@@ -3,7 +3,7 @@
 ghost use Rattle.std.specs.Prelude.{◌≡◌, ◌≤◌, [], ◌∷◌, length, IfOk, IfErr};
 ghost use Rattle.std.specs.Int.{w8, w16, w32, w64, to_be_bytes};
 ghost use Rattle.sz_record.specs.Field.{bytes, long, number, text};
-ghost use Rattle.sz_record.specs.Reading.{IsWrong, Takes, TakesNumber};
+ghost use Rattle.sz_record.specs.Reading.{IsWrong, TakesField, TakesNumber};
 ghost use Rattle.sz_record.specs.Spelling.{long_bytes, text_bytes};
 ghost use Rattle.sz_record.specs.declared.unread.Wrong.TheVariants.{OutOfMemory as wrong_memory};
 
@@ -33,9 +33,9 @@ pub(crate) struct Unread<'a> {
 }
 
 impl<'a> Unread<'a> {
-    /// Takes so many bytes.
+    /// TakesField so many bytes.
     pub fn take(&mut self, count: usize) -> Result<&'a [u8], Wrong>
-        ensures taken { IfOk result (λ read. Takes (bytes count) read.now self.old.left.now self.new.left.now) }
+        ensures taken { IfOk result (λ read. TakesField (bytes count) read.now self.old.left.now self.new.left.now) }
         ensures count { IfOk result (λ read. length read.now ≡ count) }
         ensures wrong { IfErr result (IsWrong (bytes count) self.old.left.now) }
     {
@@ -48,9 +48,9 @@ impl<'a> Unread<'a> {
         }
     }
 
-    /// Takes so many bytes.
+    /// TakesField so many bytes.
     pub fn array<const N: usize>(&mut self) -> Result<[u8; N], Wrong>
-        ensures taken { IfOk result (λ read. Takes (bytes N) read self.old.left.now self.new.left.now) }
+        ensures taken { IfOk result (λ read. TakesField (bytes N) read self.old.left.now self.new.left.now) }
         ensures count { IfOk result (λ read. length read ≡ N) }
         ensures wrong { IfErr result (IsWrong (bytes N) self.old.left.now) }
     {
@@ -63,7 +63,7 @@ impl<'a> Unread<'a> {
         }
     }
 
-    /// Takes a number of one byte, between these bounds.
+    /// TakesField a number of one byte, between these bounds.
     pub fn byte(&mut self, low: u8, most: u8) -> Result<u8, Wrong>
         ensures taken { IfOk result (λ read.
             TakesNumber w8 low most (read ∷ []) read self.old.left.now self.new.left.now) }
@@ -78,7 +78,7 @@ impl<'a> Unread<'a> {
         }
     }
 
-    /// Takes a number of two bytes, between these bounds.
+    /// TakesField a number of two bytes, between these bounds.
     pub fn number16(&mut self, low: u16, most: u16) -> Result<u16, Wrong>
         ensures taken { IfOk result (λ read.
             TakesNumber w16 low most (to_be_bytes w16 read) read self.old.left.now self.new.left.now) }
@@ -93,7 +93,7 @@ impl<'a> Unread<'a> {
         }
     }
 
-    /// Takes a number of four bytes, of at most this.
+    /// TakesField a number of four bytes, of at most this.
     pub fn number32(&mut self, most: u32) -> Result<u32, Wrong>
         ensures taken { IfOk result (λ read.
             TakesNumber w32 0 most (to_be_bytes w32 read) read self.old.left.now self.new.left.now) }
@@ -108,7 +108,7 @@ impl<'a> Unread<'a> {
         }
     }
 
-    /// Takes a number of eight bytes, of at most this.
+    /// TakesField a number of eight bytes, of at most this.
     pub fn number64(&mut self, most: u64) -> Result<u64, Wrong>
         ensures taken { IfOk result (λ read.
             TakesNumber w64 0 most (to_be_bytes w64 read) read self.old.left.now self.new.left.now) }
@@ -123,10 +123,10 @@ impl<'a> Unread<'a> {
         }
     }
 
-    /// Takes bytes behind their number in two bytes.
+    /// TakesField bytes behind their number in two bytes.
     pub fn text(&mut self, low: u16, most: u16) -> Result<&'a [u8], Wrong>
         ensures taken { IfOk result (λ read.
-            Takes (text low most) (text_bytes read.now) self.old.left.now self.new.left.now) }
+            TakesField (text low most) (text_bytes read.now) self.old.left.now self.new.left.now) }
         ensures low { IfOk result (λ read. low ≤ length read.now) }
         ensures most { IfOk result (λ read. length read.now ≤ most) }
         ensures wrong { IfErr result (IsWrong (text low most) self.old.left.now) }
@@ -135,10 +135,10 @@ impl<'a> Unread<'a> {
         self.take(size as usize)
     }
 
-    /// Takes bytes behind their number in four bytes.
+    /// TakesField bytes behind their number in four bytes.
     pub fn long(&mut self, most: u32) -> Result<&'a [u8], Wrong>
         ensures taken { IfOk result (λ read.
-            Takes (long most) (long_bytes read.now) self.old.left.now self.new.left.now) }
+            TakesField (long most) (long_bytes read.now) self.old.left.now self.new.left.now) }
         ensures most { IfOk result (λ read. length read.now ≤ most) }
         ensures wrong { IfErr result (IsWrong (long most) self.old.left.now) }
     {

@@ -10,8 +10,8 @@ ghost use Rattle.sz_record.specs.Stored.{IsLong, IsStorable, IsStorableCommitted
 use crate::reading::NEW_VERSION;
 use crate::{Committed, Device, Image, size};
 use std::alloc::Global;
+use sz_artifacts::Handling;
 use sz_base::{Bytes, Certs, Evidence, Identity, Moment, OutOfMemory};
-use sz_conveyed::Handling;
 
 /// The stored form of a device, of version 2. Takes the memory for all of it at once.
 pub fn write(alloc: Global, device: &Device) -> Result<Bytes, OutOfMemory>

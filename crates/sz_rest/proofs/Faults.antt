@@ -1,5 +1,5 @@
 -- The first fault of a reply at a reader's early return, and what it says that there is none.
-use Rattle.std.proofs.Common.{◌≡◌, ℕ, true, List, length, nat_le, Option, Some, None, IfSome, Result, Ok, Err, refl, inl, inr}
+use Rattle.std.proofs.Common.{◌≡◌, ℕ, List, length, nat_le, Option, Some, None, IfSome, Result, Ok, Err, refl, inl, inr}
 use Rattle.std.proofs.lemmas.Bool.{cases_Bool, leb-true, le-leb}
 use Rattle.std.specs.Option.{option_or}
 use Rattle.sz_json.specs.Fault.{fault_of}

@@ -2,8 +2,8 @@
 use Rattle.std.proofs.Common.{◌≡◌, ◌⊎◌, ℕ, List, Option, Some, None, IfOk, IfErr, Result, Ok, Err, refl, ap, subst, inl, inr}
 use Rattle.serde_json.specs.Data.{Data}
 use Rattle.sz_base.specs.declared.evidence.Evidence.{Evidence}
+use Rattle.sz_json.specs.Bounded.{IsBoundedJson}
 use Rattle.sz_json.specs.Form.{binary_of, object_of}
-use Rattle.sz_json.specs.Json.{IsJson}
 use Rattle.sz_json.specs.Member.{optional, required}
 use Rattle.sz_json.specs.declared.name.Name.TheVariants as name
 use Rattle.sz_rest.proofs.Faults.{fitting, fitting_where, neither, read_member, size_fault_none, size_fault_where_none}
@@ -60,8 +60,8 @@ one_evidence value evidence other h g =
     same_artifacts h.output evidence other h.artifacts (subst (λ output. HasArtifacts output other) same g.artifacts)
 
 -- a body has one value
-same_value : (body : List ℕ) (value other : Data) → IsJson body value → IsJson body other → other ≡ value
-same_value body value other h g = cc (h.1, g.1)
+same_value : (body : List ℕ) (value other : Data) → IsBoundedJson body value → IsBoundedJson body other → other ≡ value
+same_value body value other h g = cc (h.json.1, g.json.1)
 
 no_fault : (body : List ℕ) (evidence : Evidence) (fault : RestFault) → ReplyOf body evidence → FitsLimits evidence → IsBodyFault body fault → ⊥
 no_fault body evidence fault h fits (inl none) = none.1 h.0 h.1

@@ -1,5 +1,5 @@
 -- What is written of a request is a message that a server reads as it is meant.
-use Rattle.std.proofs.Common.{◌≡◌, ℕ, ◌<◌, ◌≤◌, ◌^◌, Bool, true, List, [], ◌∷◌, length, codes, Option, refl, inl, inr, arith, IsUtf8, All, length-append, lit≤}
+use Rattle.std.proofs.Common.{◌≡◌, ℕ, ◌<◌, ◌≤◌, ◌^◌, Bool, true, List, [], ◌∷◌, length, codes, Option, refl, inl, inr, arith, length-append, lit≤}
 use Rattle.std.proofs.lemmas.Bool.Decides.{nat_tests}
 use Rattle.std.proofs.lemmas.Fmt.{length-decimal-le}
 use Rattle.std.proofs.lemmas.List.Elements.{All-append, All-cons, All-weaker}
@@ -16,7 +16,7 @@ use Rattle.sz_base.specs.Serial.{IsSerial, is_serial_byte}
 use Rattle.sz_base.specs.Target.{target_text}
 use Rattle.sz_base.specs.declared.target.Target.{Target}
 use Rattle.sz_body.specs.Framing.{content_length}
-use Rattle.sz_json.specs.Json.{IsJson}
+use Rattle.sz_json.specs.Bounded.{IsBoundedJson}
 use Rattle.sz_rest.proofs.Fields.{ArePlainFields, is_visible, IsPlainField}
 use Rattle.sz_rest.proofs.Messages.{IsRequestStart, request_is_message, request_parts, Suits}
 use Rattle.sz_rest.specs.Asked.{AsksFor}
@@ -133,7 +133,7 @@ starts = record {
     below byte h = grind (arith, nat_tests)
 
 pub asks : (target : Target) (serial : List ℕ) (nonce : Option (List ℕ)) (body : List ℕ) → AreFormed target serial
-    → length body < 2 ^ 64 → IsJson body (request_value nonce) → AsksFor serial (message_text request_line (request_fields target serial) body)
+    → length body < 2 ^ 64 → IsBoundedJson body (request_value nonce) → AsksFor serial (message_text request_line (request_fields target serial) body)
 asks target serial nonce body formed small json = (
   request_parts post operation_path (with_length (request_fields target serial) body),
   body,

@@ -3,7 +3,7 @@ use Rattle.std.specs.Prelude.{◌≡◌, ◌⊎◌, ℕ, List, [], ◌∷◌, �
 use Rattle.serde_json.specs.Data.{Data}
 use Rattle.serde_json.specs.Find.{get}
 use Rattle.sz_base.specs.Serial.{IsSerial}
-use Rattle.sz_json.specs.Json.{IsJson}
+use Rattle.sz_json.specs.Bounded.{IsBoundedJson}
 use Rattle.sz_json.specs.Name.{name_text}
 use Rattle.sz_json.specs.declared.name.Name.TheVariants as name
 use Rattle.sz_head.specs.Parts.{Parts}
@@ -52,9 +52,9 @@ NamesADevice head = (serial : List ℕ) × NamesDevice head serial
 abbrev pub HasInput : Data → Type 0
 HasInput value = IsSome (get (name_text name.Input) value)
 
--- the body is empty, or the JSON of such a value
+-- the body is empty, or the bounded JSON of such a value
 abbrev pub IsInput : List ℕ → Type 0
-IsInput body = (body ≡ []) ⊎ ((value : Data) × IsJson body value × HasInput value)
+IsInput body = (body ≡ []) ⊎ ((value : Data) × IsBoundedJson body value × HasInput value)
 
 -- ---- what is asked
 

@@ -3,8 +3,8 @@ use Rattle.std.specs.Prelude.{◌≡◌, ◌≢◌, ◌≤◌, ◌⊎◌, ℕ, i
 use Rattle.std.specs.Option.{option_or}
 use Rattle.serde_json.specs.Data.{Data}
 use Rattle.sz_base.specs.declared.evidence.Evidence.{Evidence}
+use Rattle.sz_json.specs.Bounded.{IsBoundedJson}
 use Rattle.sz_json.specs.Form.{binary_of, object_of}
-use Rattle.sz_json.specs.Json.{IsJson}
 use Rattle.sz_json.specs.Member.{optional, required}
 use Rattle.sz_json.specs.declared.name.Name.{Name}
 use Rattle.sz_json.specs.declared.name.Name.TheVariants as name
@@ -35,7 +35,7 @@ pub record FitsLimits (evidence : Evidence) : Type 0 where
 
 -- the body is a text of such a value
 abbrev pub ReplyOf : List ℕ → Evidence → Type 0
-ReplyOf body evidence = (value : Data) × IsJson body value × RepliesWith value evidence
+ReplyOf body evidence = (value : Data) × IsBoundedJson body value × RepliesWith value evidence
 
 -- ---- the first fault: of each member its form, and then its size
 
@@ -72,11 +72,11 @@ reply_fault value = member_fault (required object_of name.Output value) output_f
 abbrev pub IsFault : Option RestFault → RestFault → Type 0
 IsFault found fault = fault ≢ OutOfMemory → found ≡ Some fault
 
--- the body is no JSON, or the first fault of its value is this one
+-- the body is no bounded JSON, or the first fault of its value is this one
 abbrev pub IsBodyFault : List ℕ → RestFault → Type 0
 IsBodyFault body fault =
-    ((fault ≡ Member name.Json) × ((value : Data) → ¬ (IsJson body value)))
-    ⊎ ((value : Data) × IsJson body value × (reply_fault value ≡ Some fault))
+    ((fault ≡ Member name.Json) × ((value : Data) → ¬ (IsBoundedJson body value)))
+    ⊎ ((value : Data) × IsBoundedJson body value × (reply_fault value ≡ Some fault))
 
 -- the answer is a fault of the body, or memory ran out
 abbrev pub IsBodyAnswer : List ℕ → RestFault → Type 0

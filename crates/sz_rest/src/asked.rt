@@ -29,7 +29,7 @@ pub enum Asked {
 
 /// Reads a request by its head and its body. `Refused` exactly with the status of the first rule that applies: on the
 /// operation's path 405 for another method than POST, 400 where not exactly one field names the device by a serial
-/// number, 400 for a body that is neither empty nor JSON with the operation's input; on an image's path 405 for another
+/// number, 400 for a body that is neither empty nor bounded JSON with the operation's input; on an image's path 405 for another
 /// method than GET; 404 on any other path.
 pub fn read_request(alloc: Global, head: &Head<'_>, body: &[u8]) -> Result<Asked, AskFault>
     ensures ok { IfOk result (Asks (parts_of head.now) body.now) }
@@ -129,14 +129,14 @@ fn serial_of(alloc: Global, text: &[u8]) -> Result<Option<Serial>, OutOfMemory>
     }
 }
 
-// Whether the body is empty, or JSON with the operation's input.
+// Whether the body is empty, or bounded JSON with the operation's input.
 fn is_input(alloc: Global, body: &[u8]) -> Result<bool, OutOfMemory>
     ensures { IfOk result (λ is_input. IsTrue is_input ↔ IsInput body.now) }
 {
     if body.is_empty() {
         return Ok(true);
     }
-    match sz_json::read(alloc, body) {
+    match sz_json::read_bounded(alloc, body) {
         Ok(value) => Ok(value.get(Name::Input.as_str()).is_some()),
         Err(JsonFault::Member { name: _ }) => Ok(false),
         Err(JsonFault::OutOfMemory) => Err(OutOfMemory),

@@ -13,7 +13,7 @@ use sz_base::{Bytes, Evidence};
 use sz_json::{Name, Value, binary, required_binary, required_object};
 
 /// Reads a reply of this status with this body. `Status` exactly where it is not 200; else the first fault of the body:
-/// `Member` of a member that is missing or of the wrong form, with the name `Json` where the body is no JSON, and
+/// `Member` of a member that is missing or of the wrong form, with the name `Json` where the body is no bounded JSON, and
 /// `TooLarge` of an artifact with more than `MOST_ARTIFACT_BYTES` bytes.
 pub fn read_reply(alloc: Global, status: u16, body: &[u8]) -> Result<Evidence, RestFault>
     ensures ok { IfOk result (λ evidence. (status ≡ 200) × ReplyOf body.now evidence) }
@@ -31,7 +31,7 @@ fn read_body(alloc: Global, body: &[u8]) -> Result<Evidence, RestFault>
     ensures fits { IfOk result FitsLimits }
     ensures refused { IfErr result (IsBodyAnswer body.now) }
 {
-    let value = sz_json::read(alloc, body)?;
+    let value = sz_json::read_bounded(alloc, body)?;
     of_value(alloc, &value)
 }
 

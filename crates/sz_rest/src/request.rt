@@ -6,7 +6,7 @@ ghost use Rattle.serde_json.specs.View.{view};
 ghost use Rattle.serde_json.specs.Written.{compact_text};
 ghost use Rattle.sz_base.specs.Host.{IsHost};
 ghost use Rattle.sz_base.specs.Target.{target_text};
-ghost use Rattle.sz_json.specs.Json.{IsJson};
+ghost use Rattle.sz_json.specs.Bounded.{IsBoundedJson};
 ghost use Rattle.sz_rest.specs.Asked.{AsksFor};
 ghost use Rattle.sz_rest.specs.Message.{lines_text};
 ghost use Rattle.sz_rest.specs.Request.{AreFormed, empty_leaf, input_value, request_fields, request_line, request_text, request_value};
@@ -81,7 +81,7 @@ fn host_and_port(alloc: Global, target: &Target) -> Result<Bytes, OutOfMemory>
 
 fn body(alloc: Global, nonce: Option<&[u8; 16]>) -> Result<Bytes, OutOfMemory>
     ensures compact { IfOk result (λ body. body ≡ compact_text (request_value (option_copied nonce.entry))) }
-    ensures reads_back { IfOk result (λ body. IsJson body (request_value (option_copied nonce.entry))) }
+    ensures reads_back { IfOk result (λ body. IsBoundedJson body (request_value (option_copied nonce.entry))) }
 {
     let value = request_object(alloc, nonce)?;
     write(alloc, &value)

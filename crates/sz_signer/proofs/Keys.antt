@@ -13,7 +13,7 @@ use Rattle.sz_hss.proofs.Walk.{heights-small}
 use Rattle.sz_hss.specs.Signature.{AreSignatures, hss_public_of}
 use Rattle.sz_hss.proofs.Verifies.{HssOk-signed}
 use Rattle.sz_signer.specs.Leaves.{VerifyEach}
-use Rattle.sz_hss.specs.Stored.{StoredKey, IsStorable, IsStored, shape_bytes, spelled, version}
+use Rattle.sz_hss.specs.Stored.{StoredKey, IsStorable, IsStoredKey, shape_bytes, spelled, version}
 use Rattle.sz_signer.specs.Answer.{MeansOldOrAdvanced}
 use Rattle.sz_signer.specs.KeyDisk.{MeansKey, HoldsKey, advanced, key_place, key_capacity}
 
@@ -55,7 +55,7 @@ VerifyEach-signed key first messages signatures is are i d e lt =
 -- ---- the next leaf number that an image means
 
 -- the two numbers at the end of a stored form
-numbers-last : (stored : StoredKey) (payload : List ℕ) → IsStored stored payload
+numbers-last : (stored : StoredKey) (payload : List ℕ) → IsStoredKey stored payload
     → drop (length payload - 16) payload ≡ to_be_bytes w64 stored.next ++ to_be_bytes w64 stored.end
 unfolding spelled
 numbers-last stored payload is =
@@ -78,7 +78,7 @@ next-small stored storable =
     omega (arith, storable.begun, storable.within)
 
 -- one payload is the stored form of one key's next leaf number alone
-next-of_payload : (one other : StoredKey) (payload : List ℕ) → IsStored one payload → IsStored other payload → one.next ≡ other.next
+next-of_payload : (one other : StoredKey) (payload : List ℕ) → IsStoredKey one payload → IsStoredKey other payload → one.next ≡ other.next
 next-of_payload one other payload is is_other =
     let both = sym (numbers-last one payload is) ∙ numbers-last other payload is_other in
     let bytes : to_be_bytes w64 one.next ≡ to_be_bytes w64 other.next = ap (take 8) both in
@@ -91,4 +91,4 @@ next-once one other image means means_other =
     let same : value means.slot means.sequence means.payload ≡ value means_other.slot means_other.sequence means_other.payload =
     sym means.value_is ∙ means_other.value_is in
     let payload : means.payload ≡ means_other.payload = cc in
-    next-of_payload one other means_other.payload (subst (IsStored one) payload means.stored_is) means_other.stored_is
+    next-of_payload one other means_other.payload (subst (IsStoredKey one) payload means.stored_is) means_other.stored_is

@@ -11,7 +11,7 @@ use Rattle.sz_disk.specs.Disk.{Seen, IsLawful, LeavesOnly}
 use Rattle.sz_disk.proofs.Moments.{leaves-none, leaves-weaker}
 use Rattle.sz_hss.specs.Stored.{IsStorable, spelled}
 use Rattle.sz_hss.specs.StoredFault.{IsWrong, stored_tests}
-use Rattle.sz_signer.specs.Answer.{AttachAnswers, MeansOldOrAdvanced, ReadsBadKey, Stands}
+use Rattle.sz_signer.specs.Answer.{AttachAnswers, MeansOldOrAdvanced, ReadsBadKey, StandsForKey}
 use Rattle.sz_signer.specs.Fault.{IsReadFault, of_clear}
 use Rattle.sz_signer.specs.KeyDisk.{HoldsKey, advanced, key_place, key_capacity}
 use Rattle.sz_signer.specs.State.{HasLast, Holds, IsKeyCell, SignerState}
@@ -22,7 +22,7 @@ use Rattle.sz_signer.proofs.Keys.{HoldsKey-ready, IsStorable-advanced, MeansOldO
 -- a signer whose cell is ready with its stored key
 pub Stands-ready : (disk : Seen) (signer : SignerState) (kept : Kept) (payload : List ℕ) → signer.cell ≡ Some kept
     → kept.at ≡ key_place → kept.capacity ≡ key_capacity → IsReady disk kept payload → payload ≡ spelled signer.stored
-    → IsStorable signer.stored → Stands disk signer
+    → IsStorable signer.stored → StandsForKey disk signer
 Stands-ready disk signer kept payload cell at capacity ready spelled_is storable =
     let ready_spelled = subst (IsReady disk kept) spelled_is ready in
     record {
@@ -76,7 +76,7 @@ reserve-moments n signer kept payload old new result by holds =
 pub Stands-replaced : {T E : Type 0} (n : ℕ) (signer : SignerState) (kept next : Kept) (payload : List ℕ) (old new : Seen) (given : T)
     → Replaces {T = T} {E = E} n signer kept payload old new (Ok given) → Holds old signer
     → next ≡ next_of (record { kept = kept; size = length payload })
-    → Stands new (record { stored = advanced n signer.stored; cell = Some next })
+    → StandsForKey new (record { stored = advanced n signer.stored; cell = Some next })
 Stands-replaced n signer kept next payload old new given by holds next_is =
     let cell = subst IsKeyCell by.cell_is by.key_cell in
     let run = replaced-ready n signer kept payload old new (Ok given) by holds in

@@ -20,7 +20,7 @@ abbrev pub new_stored : HssKey → StoredKey
 new_stored key = record { key = key; next = 0; end = leaf_count key }
 
 -- A signer that stands on the disk: every image that a crash now may leave means its key.
-pub record Stands (disk : Seen) (signer : SignerState) : Type 0 where
+pub record StandsForKey (disk : Seen) (signer : SignerState) : Type 0 where
   pub holds : Holds disk signer
   pub means : HoldsKey disk signer.stored
 
@@ -30,7 +30,7 @@ pub record Stands (disk : Seen) (signer : SignerState) : Type 0 where
 pub record IsNew (key : HssKey) (old new : Seen) (signer : SignerState) : Type 0 where
   pub free : NoneOpen key_place key_capacity old.reads
   pub stored : signer.stored ≡ new_stored key
-  pub stands : Stands new signer
+  pub stands : StandsForKey new signer
 
 -- What `create` answers, once the key is drawn.
 abbrev pub CreateAnswers : HssKey → Seen → Seen → Result SignerState SignFault → Type 0
@@ -78,7 +78,7 @@ ReadsBadKey (Some bytes) place byte = HasBadKey bytes place byte
 
 -- What `attach` answers.
 abbrev pub AttachAnswers : Seen → Seen → Result SignerState SignFault → Type 0
-AttachAnswers old new (Ok signer) = Stands new signer
+AttachAnswers old new (Ok signer) = StandsForKey new signer
 AttachAnswers old new (Err Failed) = Unit {0}
 AttachAnswers old new (Err OutOfMemory) = Unit {0}
 AttachAnswers old new (Err NotFormatted) = ReadMeans key_place key_capacity old.reads none
@@ -99,7 +99,7 @@ handed_out n signer =
 -- them. A signer that failed is spent: it keeps its key, its next leaf number and its end, and hands out no more.
 abbrev pub ReserveAnswers : ℕ → Seen → SignerState → SignerState → Result Reserved SignFault → Type 0
 ReserveAnswers n new before after (Ok leaves) =
-    (leaves ≡ handed_out n before) × (after.stored ≡ advanced n before.stored) × Stands new after
+    (leaves ≡ handed_out n before) × (after.stored ≡ advanced n before.stored) × StandsForKey new after
 ReserveAnswers n new before after (Err Failed) = after ≡ spent before
 ReserveAnswers n new before after (Err (CellExhausted sequence)) = after ≡ spent before
 ReserveAnswers n new before after (Err (Exhausted next end)) =

@@ -2,7 +2,7 @@
 use Rattle.std.specs.Prelude.{◌≡◌, ℕ, ◌+◌, List}
 use Rattle.sz_cell.specs.Meaning.{meaning, value}
 use Rattle.sz_disk.specs.Disk.{Seen}
-use Rattle.sz_hss.specs.Stored.{StoredKey, IsStored}
+use Rattle.sz_hss.specs.Stored.{StoredKey, IsStoredKey}
 
 -- where the cell lies
 abbrev pub key_place : ℕ
@@ -21,7 +21,7 @@ pub record MeansKey (stored : StoredKey) (image : List ℕ) : Type 0 where
   pub sequence : ℕ
   pub payload : List ℕ
   pub value_is : meaning key_place key_capacity image ≡ value slot sequence payload
-  pub stored_is : IsStored stored payload
+  pub stored_is : IsStoredKey stored payload
 
 -- every image that a crash now may leave means this key
 abbrev pub HoldsKey : Seen → StoredKey → Type 0

@@ -3,7 +3,7 @@ use Rattle.std.specs.Prelude.{◌≡◌, ℕ, List, [], ◌∷◌, ◌++◌, Opt
 use Rattle.std.specs.List.{range_with_len}
 use Rattle.sz_disk.specs.Disk.{Seen, IsStill, LeavesOnly}
 use Rattle.sz_hss.specs.Used.{Release}
-use Rattle.sz_signer.specs.Answer.{AttachAnswers, MeansOldOrAdvanced, ReserveAnswers, Stands}
+use Rattle.sz_signer.specs.Answer.{AttachAnswers, MeansOldOrAdvanced, ReserveAnswers, StandsForKey}
 use Rattle.sz_signer.specs.Leaves.{Reserved}
 use Rattle.sz_signer.specs.State.{SignerState}
 use Rattle.sz_signer.specs.declared.fault.SignFault.{SignFault}
@@ -49,12 +49,12 @@ Goes seen old (attaches result) new =
     AttachAnswers (seen old.disk) (seen new.disk) result × IsStill (seen old.disk) (seen new.disk)
     × (new.signer ≡ attached result) × (new.held ≡ old.held)
 Goes seen old (reserves n result) new =
-    (before after : SignerState) × (old.signer ≡ Some before) × Stands (seen old.disk) before
+    (before after : SignerState) × (old.signer ≡ Some before) × StandsForKey (seen old.disk) before
     × ReserveAnswers n (seen new.disk) before after result
     × LeavesOnly (seen old.disk) (seen new.disk) (MeansOldOrAdvanced n before.stored)
     × (new.signer ≡ Some after) × (new.held ≡ old.held ++ numbers_of result)
 Goes {D} seen old (breaks_off n) new =
-    (before : SignerState) × (last : D) × (old.signer ≡ Some before) × Stands (seen old.disk) before
+    (before : SignerState) × (last : D) × (old.signer ≡ Some before) × StandsForKey (seen old.disk) before
     × LeavesOnly (seen old.disk) (seen last) (MeansOldOrAdvanced n before.stored)
     × IsCut (seen old.disk) (seen last) (seen new.disk) × (new.signer ≡ None) × (new.held ≡ old.held)
 Goes {D} seen old cuts new =

@@ -1,17 +1,17 @@
 //! A signer is made on a fresh disk, or found on one.
 
-ghost use Rattle.std.specs.Prelude.{◌≡◌, ℕ, List, ◌++◌, ◌+◌, ◌<◌, ◌≤◌, Err, IfOk, IfErr, OnErr, true, false, is_err, length, nat_lt};
-ghost use Rattle.sz_cell.specs.Cell.{IsReady, WhereReadsTold};
+ghost use Rattle.std.specs.Prelude.{◌≡◌, ◌⊎◌, ℕ, List, ◌++◌, ◌+◌, ◌<◌, ◌≤◌, Err, IfOk, IfErr, OnErr, true, false, is_err, length, nat_lt};
+ghost use Rattle.sz_cell.specs.Cell.{IsReady, NoneOpen, WhereReadsTold};
 ghost use Rattle.sz_cell.specs.Slot.{region_size};
 ghost use Rattle.sz_disk.specs.Disk.{IsQuiet, IsStill, IsSynced};
 ghost use Rattle.sz_disk.specs.Image.{part};
 ghost use Rattle.sz_hss.specs.Key.{HssKey};
-ghost use Rattle.sz_hss.specs.Stored.{IsStorable, IsStored, spelled};
+ghost use Rattle.sz_hss.specs.Stored.{IsStorable, IsStoredKey, spelled};
 ghost use Rattle.sz_hss.specs.StoredFault.{IsWrong, stored_tests};
 ghost use Rattle.sz_hss.specs.View.{record_of};
 ghost use Rattle.sz_signer.specs.Answer.{AttachAnswers, Created, IsDrawn};
 ghost use Rattle.sz_signer.specs.Fault.{IsReadFault, comes_first, disk_failed, entropy_failed, is_too_small};
-ghost use Rattle.sz_signer.specs.KeyDisk.{least_size};
+ghost use Rattle.sz_signer.specs.KeyDisk.{key_capacity, key_place, least_size};
 ghost use Rattle.sz_spec.specs.Cause.{HasCause};
 ghost use Rattle.sz_spec.specs.Told.{TakesFront};
 
@@ -81,6 +81,8 @@ fn settle<R: Threads + Sync, G: Gate + Sync, D: Disk>(
     ensures created { Created key (D.seen disk.old) (D.seen disk.new) result }
     ensures size { is_too_small result ≡ nat_lt (D.seen disk.old).size least_size }
     ensures untouched { comes_first result ≡ true → disk.new ≡ disk.old }
+    ensures free { IsStill (D.seen disk.old) (D.seen disk.new)
+        ⊎ NoneOpen key_place key_capacity (D.seen disk.old).reads }
     ensures drawn { entropy_failed result ≡ false }
     ensures cause { HasCause (D.seen disk.old).faults (D.seen disk.new).faults (disk_failed result) }
 {
@@ -102,7 +104,7 @@ fn read_stored<D: Disk>(alloc: Global, ready: &Ready, disk: &mut D) -> Result<St
     requires { ready.now.at + region_size ready.now.capacity ≤ (D.seen disk.old).size }
     ensures stored { (payload : List ℕ) → IsReady (D.seen disk.old) ready.now payload
         → IfOk result (λ stored. IsReady (D.seen disk.new) ready.now (spelled (record_of stored))
-        × WhereReadsTold (D.seen disk.old).reads (IsStored (record_of stored) payload)) }
+        × WhereReadsTold (D.seen disk.old).reads (IsStoredKey (record_of stored) payload)) }
     ensures storable { IfOk result (λ stored. IsStorable (record_of stored)) }
     ensures bad { (payload place byte : _) → IsReady (D.seen disk.old) ready.now payload
         → result ≡ Err (SignFault.BadKey place byte)
@@ -118,7 +120,8 @@ fn read_stored<D: Disk>(alloc: Global, ready: &Ready, disk: &mut D) -> Result<St
 
 impl Signer {
     /// Makes a key of these levels on a disk that is not in use, of 48 bytes that are drawn at once: SEED, then I. It
-    /// draws first, then tests the size of the disk, then builds the top tree, and then writes.
+    /// draws first, then tests the size of the disk, then builds the top tree, and then writes. Nothing is written unless
+    /// both gates read closed, whatever it answers.
     pub fn create<R: Threads + Sync, G: Gate + Sync, D: Disk, E: Entropy>(
         rt: &R,
         gate: &G,
@@ -133,6 +136,8 @@ impl Signer {
         ensures size { entropy_failed result ≡ false →
             is_too_small result ≡ nat_lt (D.seen disk.old).size least_size }
         ensures untouched { comes_first result ≡ true → disk.new ≡ disk.old }
+        ensures free { IsStill (D.seen disk.old) (D.seen disk.new)
+            ⊎ NoneOpen key_place key_capacity (D.seen disk.old).reads }
         ensures undrawn { entropy_failed result ≡ true → E.bytes entropy.new ≡ E.bytes entropy.old }
         ensures entropy { HasCause (E.faults entropy.old) (E.faults entropy.new) (entropy_failed result) }
         ensures cause { HasCause (D.seen disk.old).faults (D.seen disk.new).faults (disk_failed result) }

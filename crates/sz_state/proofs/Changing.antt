@@ -10,7 +10,7 @@ use Rattle.sz_cell.specs.Meaning.{Meaning, meaning}
 use Rattle.sz_cell.specs.Slot.{region_size}
 use Rattle.sz_base.specs.declared.evidence.Evidence.{Evidence}
 use Rattle.sz_base.specs.declared.moment.Moment.{Moment}
-use Rattle.sz_conveyed.specs.declared.onboarding.Onboarding.{Onboarding}
+use Rattle.sz_artifacts.specs.declared.conveyed.onboarding.Onboarding.{Onboarding}
 use Rattle.sz_record.specs.Field.{longest}
 use Rattle.sz_record.specs.Spelling.{new_version, record_bytes}
 use Rattle.sz_record.specs.Stored.{IsStorable, IsStored, IsWithin}

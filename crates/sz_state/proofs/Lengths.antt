@@ -5,8 +5,8 @@ use Rattle.std.specs.Int.{w32, w64, to_be_bytes}
 use Rattle.std.proofs.lemmas.List.{length-append}
 use Rattle.sz_base.specs.declared.evidence.Evidence.{Evidence}
 use Rattle.sz_base.specs.declared.moment.Moment.{Moment}
-use Rattle.sz_conveyed.specs.declared.onboarding.BootImage.{BootImage}
-use Rattle.sz_conveyed.specs.declared.onboarding.Onboarding.{Onboarding}
+use Rattle.sz_artifacts.specs.declared.conveyed.onboarding.BootImage.{BootImage}
+use Rattle.sz_artifacts.specs.declared.conveyed.onboarding.Onboarding.{Onboarding}
 use Rattle.sz_record.specs.Field.{longest}
 use Rattle.sz_record.specs.Spelling.{new_version, long_bytes, optional_bytes, moment_bytes, evidence_bytes, image_bytes, handling_number, committed_bytes, identity_bytes, text_bytes, device_bytes, record_bytes}
 use Rattle.sz_record.specs.Stored.{IsLong, IsStorable, IsStorableCommitted, IsStorableEvidence, IsStorableImage, IsStorableMoment, most_name_bytes}

@@ -2,8 +2,8 @@
 use Rattle.std.specs.Prelude.{◌≡◌, ◌≢◌, ◌⊎◌, ℕ, ◌+◌, ◌^◌, ◌≤◌, List, length, Some, None, IfSome, Result, Ok, Err, OnOk}
 use Rattle.sz_base.specs.declared.evidence.Evidence.{Evidence}
 use Rattle.sz_base.specs.declared.moment.Moment.{Moment}
-use Rattle.sz_conveyed.specs.declared.onboarding.BootImage.{BootImage}
-use Rattle.sz_conveyed.specs.declared.onboarding.Onboarding.{Onboarding}
+use Rattle.sz_artifacts.specs.declared.conveyed.onboarding.BootImage.{BootImage}
+use Rattle.sz_artifacts.specs.declared.conveyed.onboarding.Onboarding.{Onboarding}
 use Rattle.sz_disk.specs.Disk.{Seen, IsSettled, LeavesOnly}
 use Rattle.sz_record.specs.declared.device.Device.{Device}
 use Rattle.sz_state.specs.Fitting.{Fits}

@@ -15,9 +15,9 @@ ghost use Rattle.sz_state.specs.Step.{once_installed, once_onboarded, with_image
 
 use crate::{Held, Staged, StateFault};
 use std::alloc::Global;
+use sz_artifacts::{BootImage, Onboarding};
 use sz_base::{Evidence, Moment, OutOfMemory, Text};
 use sz_cell::Ready;
-use sz_conveyed::{BootImage, Onboarding};
 use sz_disk::Disk;
 use sz_record::{Committed, Device, Image, write};
 

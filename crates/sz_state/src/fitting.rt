@@ -1,7 +1,7 @@
 //! Whether a device's next record fits its cell.
 
 ghost use Rattle.std.specs.Prelude.{◌≡◌, length, Some, unwrap_or};
-ghost use Rattle.sz_conveyed.specs.declared.onboarding.BootImage.{BootImage as SomeBoot};
+ghost use Rattle.sz_artifacts.specs.declared.conveyed.onboarding.BootImage.{BootImage as SomeBoot};
 ghost use Rattle.sz_record.specs.Size.{size_of};
 ghost use Rattle.sz_record.specs.Spelling.{new_version, record_bytes};
 ghost use Rattle.sz_record.specs.declared.device.Image.{Image as SomeImage};
@@ -10,8 +10,8 @@ ghost use Rattle.sz_state.specs.Step.{IsSatisfied, once_onboarded, with_image};
 
 use crate::Held;
 use crate::satisfied::is_booted;
+use sz_artifacts::{BootImage, Onboarding};
 use sz_base::{Evidence, Moment, Text};
-use sz_conveyed::{BootImage, Onboarding};
 use sz_record::{Device, installed_size, onboarded_size};
 
 /// `None` exactly where the device's next record fits its cell, else the size of that record, or the greatest u64 where

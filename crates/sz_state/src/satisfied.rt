@@ -3,8 +3,8 @@
 ghost use Rattle.std.specs.Prelude.{◌≡◌, ◌↔◌, IfSome, IsTrue};
 ghost use Rattle.sz_state.specs.Step.{IsBooted, IsSatisfied};
 
+use sz_artifacts::{BootImage, Onboarding};
 use sz_base::Text;
-use sz_conveyed::{BootImage, Onboarding};
 use sz_record::Device;
 
 /// Whether the information names no boot image, or the one that runs.

@@ -2,8 +2,8 @@
 -- with it.
 use Rattle.std.specs.Prelude.{◌≡◌, ℕ, List, Some, IfSome}
 use Rattle.sz_base.specs.declared.identity.Identity.{Identity}
-use Rattle.sz_conveyed.specs.declared.onboarding.BootImage.{BootImage}
-use Rattle.sz_conveyed.specs.declared.onboarding.Onboarding.{Onboarding}
+use Rattle.sz_artifacts.specs.declared.conveyed.onboarding.BootImage.{BootImage}
+use Rattle.sz_artifacts.specs.declared.conveyed.onboarding.Onboarding.{Onboarding}
 use Rattle.sz_evidence.specs.Authorised.{Authorised}
 use Rattle.sz_record.specs.declared.device.Committed.{Committed}
 use Rattle.sz_record.specs.declared.device.Device.{Device}

@@ -2,7 +2,7 @@
 use Rattle.std.proofs.Common.{◌≡◌, ◌≤◌, ◌⊎◌, inl, inr, true, List, [], ◌∷◌, ◌++◌, length, Some, None, refl, sym, ap, ◌∙◌, subst, arith, append_assoc, append-nil}
 use Rattle.std.specs.List.{AllByRecursion}
 use Rattle.sz_base.specs.declared.evidence.Evidence.{Evidence}
-use Rattle.sz_conveyed.specs.declared.onboarding.Onboarding.{Onboarding}
+use Rattle.sz_artifacts.specs.declared.conveyed.onboarding.Onboarding.{Onboarding}
 use Rattle.sz_evidence.specs.declared.reason.Reason.{Reason}
 use Rattle.sz_io.specs.Added.{Adds}
 use Rattle.sz_io.specs.Net.{Traffic}

@@ -1,7 +1,7 @@
 -- Runs of a walk: acts at the front of the list, the exchanges that they own, and the visits of a whole walk.
 use Rattle.std.specs.Prelude.{◌≡◌, ◌⊎◌, ℕ, ◌+◌, Bool, true, false, if◌then◌else◌, List, [], ◌∷◌, ◌++◌, Option, Some, None}
 use Rattle.sz_base.specs.declared.evidence.Evidence.{Evidence}
-use Rattle.sz_conveyed.specs.declared.onboarding.Onboarding.{Onboarding}
+use Rattle.sz_artifacts.specs.declared.conveyed.onboarding.Onboarding.{Onboarding}
 use Rattle.sz_evidence.specs.declared.reason.Reason.{Reason}
 use Rattle.sz_io.specs.Added.{Adds}
 use Rattle.sz_io.specs.Net.{Traffic}

@@ -5,7 +5,7 @@
 ghost use Rattle.std.specs.Prelude.{◌≡◌, ◌≤◌, List, length, None, Some};
 ghost use Rattle.std.specs.List.{AllByRecursion};
 ghost use Rattle.sz_base.specs.declared.evidence.Evidence.{Evidence};
-ghost use Rattle.sz_conveyed.specs.declared.onboarding.Onboarding.{Onboarding};
+ghost use Rattle.sz_artifacts.specs.declared.conveyed.onboarding.Onboarding.{Onboarding};
 ghost use Rattle.sz_evidence.specs.declared.reason.Reason.{Reason};
 ghost use Rattle.sz_io.specs.Added.{Adds};
 ghost use Rattle.sz_io.specs.Net.{Traffic};

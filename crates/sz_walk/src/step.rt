@@ -1,7 +1,7 @@
 //! What one call of a walk comes to.
 
+use sz_artifacts::Onboarding;
 use sz_base::Evidence;
-use sz_conveyed::Onboarding;
 
 /// What a call of `Walk::next` came to.
 #[derive(Debug, Drop)]

@@ -1,7 +1,7 @@
 //! What a device makes of an offer, as the laws of a walk see it.
 
+use sz_artifacts::Onboarding;
 use sz_base::Evidence;
-use sz_conveyed::Onboarding;
 use sz_evidence::Reason;
 use sz_io::Exchange;
 
@@ -9,7 +9,7 @@ use sz_io::Exchange;
 pub trait Tries {
     ghost use Rattle.std.specs.Prelude.{List, Option};
     ghost use Rattle.sz_base.specs.declared.evidence.Evidence.{Evidence};
-    ghost use Rattle.sz_conveyed.specs.declared.onboarding.Onboarding.{Onboarding};
+    ghost use Rattle.sz_artifacts.specs.declared.conveyed.onboarding.Onboarding.{Onboarding};
     ghost use Rattle.sz_evidence.specs.declared.reason.Reason.{Reason};
     ghost use Rattle.sz_io.specs.declared.exchange.Exchange.{Exchange};
 

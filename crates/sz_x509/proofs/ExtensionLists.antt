@@ -1,14 +1,15 @@
 -- Extensions one after another: what has no fault is spelled as its relation says, and what is spelled so has none.
 use Rattle.std.proofs.Common.{◌≡◌, ◌≢◌, ℕ, zero, suc, inl, inr, ◌<◌, ◌≤◌, Bool, true, false, not, ◌||◌, List, [], ◌∷◌, ◌++◌, length, None, refl, sym, ap, ◌∙◌, arith, length-append}
-use Rattle.std.specs.Prelude.{bytes_eq, map}
+use Rattle.std.specs.Prelude.{◌+◌, bytes_eq, map, nat_lt}
 use Rattle.std.specs.List.{AllByRecursion}
-use Rattle.std.proofs.lemmas.Bool.{both_ways, cases_Bool, false_from_ne_true, not-true, not_from_false, or_left, or_right, or_parts, or_from}
+use Rattle.std.proofs.lemmas.Bool.{both_ways, cases_Bool, false_from_ne_true, not-true, lt-ltb, ltb-true, not_from_false, or_left, or_right, or_parts, or_from}
+use Rattle.std.proofs.lemmas.List.{length-map}
 use Rattle.std.proofs.lemmas.List.Folds.{list_any-append}
 use Rattle.sz_der.specs.Der.{AreOctets, Der}
 use Rattle.sz_der.specs.declared.tag.TheConstants.{BOOLEAN, OBJECT_IDENTIFIER, OCTET_STRING, SEQUENCE}
 use Rattle.sz_x509.specs.CertFault.{each_fault, end, extension_fault, flag_at, flag_fault, flag_spot, identifier_at, part, stands_among, value_fault, value_spot}
-use Rattle.sz_x509.specs.Extensions.{AreDistinct, AreExtensions, Extension, is_known, IsExtension, IsUnderstood}
-use Rattle.sz_x509.specs.Parts.{after, content_at, inside, is_at_end, Spot, spots_upto, whole_at}
+use Rattle.sz_x509.specs.Extensions.{AreDistinct, AreExtensions, Extension, is_known, IsExtension, IsUnderstood, most_extensions}
+use Rattle.sz_x509.specs.Parts.{after, content_at, inside, is_at_end, rule, Spot, spots_upto, whole_at}
 use Rattle.sz_x509.specs.declared.fault.CertKind.TheVariants as kinds
 use Rattle.sz_x509.proofs.Spots.{end_from_nothing, Found, found_part, holds_from_rule, inside-left, nil_from_end, no_part-stands, nothing_left, parts_of_none, rule_from_holds, stands}
 use Rattle.sz_x509.proofs.Spelled.{alone, and_then, Der_with, last}
@@ -55,14 +56,15 @@ good_from_none earlier spot fits n =
     let f = parts_of_none _ _ e.1 in
     let g = parts_of_none _ _ f.1 in
     let h = parts_of_none _ _ g.1 in
+    let i = parts_of_none _ _ h.1 in
     let sequence = found_part kinds.Der SEQUENCE spot fits a.0 in
-    let identifier = found_part kinds.Der OBJECT_IDENTIFIER (inside spot) sequence.inside b.0 in
-    let flag = IsFlag_from_none (flag_spot spot) identifier.after d.0 in
-    let value = found_part kinds.Der OCTET_STRING (value_spot spot) flag.after f.0 in
-    let only = last (whole_at (value_spot spot)) value.joined (nothing_left kinds.Der (after (value_spot spot)) g.0) in
+    let identifier = found_part kinds.Der OBJECT_IDENTIFIER (inside spot) sequence.inside c.0 in
+    let flag = IsFlag_from_none (flag_spot spot) identifier.after e.0 in
+    let value = found_part kinds.Der OCTET_STRING (value_spot spot) flag.after g.0 in
+    let only = last (whole_at (value_spot spot)) value.joined (nothing_left kinds.Der (after (value_spot spot)) h.0) in
     let parts = and_then (whole_at (inside spot)) identifier.joined (and_then flag.piece flag.joined only) in
-    let new = holds_from_rule (not (stands_among earlier (identifier_at spot))) kinds.Extension spot c.0 in
-    let told = holds_from_rule (not (flag_at (flag_spot spot)) || is_known (identifier_at spot)) kinds.Extension spot e.0 in
+    let new = holds_from_rule (not (stands_among earlier (identifier_at spot))) kinds.Extension spot d.0 in
+    let told = holds_from_rule (not (flag_at (flag_spot spot)) || is_known (identifier_at spot)) kinds.Extension spot f.0 in
     record {
       is_extension = record {
         identifier = whole_at (inside spot);
@@ -77,7 +79,7 @@ good_from_none earlier spot fits n =
       new = not-true (stands_among earlier (identifier_at spot)) new;
       keeps = record {
         understood = understood_from (flag_at (flag_spot spot)) (is_known (identifier_at spot)) told;
-        value = h.0;
+        value = i.0;
         octets = value.inside;
       };
     }
@@ -129,14 +131,15 @@ is_understood extension understood =
     ]
 
 pub clear_where_spelled : (earlier : List Spot) (spot : Spot) (extension : Extension) (rest : List ℕ) → IsSpelled spot extension rest →
-    stands_among earlier extension.identifier ≡ false → IsUnderstood extension →
+    length earlier < most_extensions → stands_among earlier extension.identifier ≡ false → IsUnderstood extension →
     value_fault extension.identifier (inside (value_spot spot)) ≡ None → extension_fault earlier spot ≡ None
 unfolding extension_fault
-clear_where_spelled earlier spot extension rest is new understood value =
+clear_where_spelled earlier spot extension rest is room new understood value =
     let same : identifier_at spot ≡ extension.identifier = ap (λ (x : Extension). x.identifier) is.is_extension in
     let critical : flag_at (flag_spot spot) ≡ extension.critical = ap (λ (x : Extension). x.critical) is.is_extension in
     rw (
       is.sequence,
+      rule_from_holds (nat_lt (length earlier) most_extensions) kinds.Extension spot (lt-ltb (length earlier) most_extensions room),
       is.identifier,
       rule_from_holds (not (stands_among earlier (identifier_at spot))) kinds.Extension spot
           (not_from_false (stands_among earlier (identifier_at spot)) (rw same new)),
@@ -180,6 +183,30 @@ are_extensions (suc n) earlier spot few fits e =
           rw more ((whole_at spot, (after spot).left, good.is_extension, good.found.joined, rest.0), (good.keeps, rest.1))
     ]
 
+-- ---- they are few
+
+room_of : (earlier : List Spot) (spot : Spot) → extension_fault earlier spot ≡ None → length earlier < most_extensions
+unfolding extension_fault
+room_of earlier spot n =
+    let a = parts_of_none _ _ n in
+    let b = parts_of_none _ _ a.1 in
+    ltb-true (length earlier) most_extensions (holds_from_rule (nat_lt (length earlier) most_extensions) kinds.Extension spot b.0)
+
+few_spots : (earlier later : List Spot) → length earlier ≤ most_extensions → each_fault earlier later ≡ None →
+    length earlier + length later ≤ most_extensions
+unfolding each_fault
+few_spots earlier [] few e = omega (arith, few)
+few_spots earlier (spot ∷ later) few e =
+    let parts = parts_of_none _ _ e in
+    let others = parts_of_none _ _ parts.1 in
+    let longer = length-append earlier (spot ∷ []) in
+    let room = room_of earlier spot parts.0 in
+    let rest = few_spots (earlier ++ spot ∷ []) later (omega (arith, room, longer)) others.0 in
+    omega (arith, rest, longer)
+
+pub are_few : (spots : List Spot) → each_fault [] spots ≡ None → length (extensions_at spots) ≤ most_extensions
+are_few spots e = omega (arith, few_spots [] spots (omega arith) e, length-map spots extension_at)
+
 -- ---- no identifier stands twice
 
 -- what is not among the earlier ones is not this one
@@ -203,11 +230,12 @@ covers_more earlier spot identifier covers other none same =
 pub new_of : (earlier : List Spot) (spot : Spot) → extension_fault earlier spot ≡ None → stands_among earlier (identifier_at spot) ≡ false
 unfolding extension_fault
 new_of earlier spot n =
-    let a = parts_of_none _ _ n in
-    let b = parts_of_none _ _ a.1 in
-    let c = parts_of_none _ _ b.1 in
+    let a = parts_of_none (part kinds.Der SEQUENCE spot) _ n in
+    let b = parts_of_none (rule (nat_lt (length earlier) most_extensions) kinds.Extension spot) _ a.1 in
+    let c = parts_of_none (part kinds.Der OBJECT_IDENTIFIER (inside spot)) _ b.1 in
+    let d = parts_of_none (rule (not (stands_among earlier (identifier_at spot))) kinds.Extension spot) _ c.1 in
     not-true (stands_among earlier (identifier_at spot))
-    (holds_from_rule (not (stands_among earlier (identifier_at spot))) kinds.Extension spot c.0)
+    (holds_from_rule (not (stands_among earlier (identifier_at spot))) kinds.Extension spot d.0)
 
 all_others : (earlier later : List Spot) (identifier : List ℕ) → each_fault earlier later ≡ None → Covers earlier identifier →
     AllByRecursion (λ other. other.identifier ≢ identifier) (extensions_at later)
@@ -255,24 +283,24 @@ still_new earlier spot identifier (extension ∷ extensions) same new others =
     (apart ∙ or_from _ _ new.0 (or_from _ _ differs refl), still_new earlier spot identifier extensions same new.1 others.1)
 
 pub clear_each : (n : ℕ) (earlier : List Spot) (spot : Spot) (extensions : List Extension) → length spot.left ≤ n →
-    AreExtensions extensions spot.left → AreNew earlier extensions → AreDistinct extensions → AllByRecursion IsUnderstood extensions →
+    AreExtensions extensions spot.left → length earlier + length extensions ≤ most_extensions → AreNew earlier extensions → AreDistinct extensions → AllByRecursion IsUnderstood extensions →
     AllByRecursion ValueIsClear extensions →
     (each_fault earlier (spots_upto n spot) ≡ None) × (extensions_at (spots_upto n spot) ≡ extensions)
 unfolding spots_upto each_fault is_at_end
-clear_each zero earlier spot [] few are new distinct understood clear = (refl, refl)
-clear_each zero earlier spot (extension ∷ extensions) few are new distinct understood clear =
+clear_each zero earlier spot [] few are room new distinct understood clear = (refl, refl)
+clear_each zero earlier spot (extension ∷ extensions) few are room new distinct understood clear =
     absurd (omega (arith, few, ap length are.3, length-append are.0 are.1, whole_some SEQUENCE _ are.0 are.2.is_sequence))
-clear_each (suc n) earlier spot [] few are new distinct understood clear = rw are (refl, refl)
-clear_each (suc n) earlier spot (extension ∷ extensions) few are new distinct understood clear =
+clear_each (suc n) earlier spot [] few are room new distinct understood clear = rw are (refl, refl)
+clear_each (suc n) earlier spot (extension ∷ extensions) few are room new distinct understood clear =
     let is = spelled spot extension are.0 are.1 are.2 are.3 in
     let value : value_fault extension.identifier (inside (value_spot spot)) ≡ None =
     clear.0 (inside (value_spot spot)) (inside-left (value_spot spot) ∙ ap (λ (x : Extension). x.value) is.is_extension) in
-    let here = clear_where_spelled earlier spot extension are.1 is new.0 understood.0 value in
+    let here = clear_where_spelled earlier spot extension are.1 is (omega (arith, room)) new.0 understood.0 value in
     let same : identifier_at spot ≡ extension.identifier = ap (λ (x : Extension). x.identifier) is.is_extension in
     let whole = whole_some SEQUENCE _ are.0 are.2.is_sequence in
     let fewer : length (after spot).left ≤ n = omega (arith, ap length are.3, length-append are.0 are.1, ap length is.after) in
     let rest = clear_each n (earlier ++ spot ∷ []) (after spot) extensions fewer (rw is.after are.4)
-    (still_new earlier spot extension.identifier extensions same new.1 distinct.0) distinct.1 understood.1 clear.1 in (
+    (omega (arith, room, length-append earlier (spot ∷ []))) (still_new earlier spot extension.identifier extensions same new.1 distinct.0) distinct.1 understood.1 clear.1 in (
       rw (is.some, here, rest.0) refl,
       rw is.some (ap (λ (x : Extension). x ∷ extensions_at (spots_upto n (after spot))) is.is_extension ∙ ap (λ (xs : List Extension). extension ∷ xs) rest.1),
     )

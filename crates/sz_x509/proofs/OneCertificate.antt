@@ -1,6 +1,6 @@
 -- Bytes without a fault are those of one certificate and no other, and what the reader answers of them.
-use Rattle.std.proofs.Common.{◌≡◌, ℕ, zero, suc, inl, inr, not, ◌||◌, ◌+◌, ◌*◌, ◌/◌, ◌%◌, ◌^◌, ◌<◌, List, [], ◌∷◌, ◌++◌, drop, Option, Some, None, Result, Ok, Err, refl, sym, ap, ◌∙◌, arith}
-use Rattle.std.specs.Prelude.{bytes_eq, IfErr, IfOk, IsOkAnd, OnOk}
+use Rattle.std.proofs.Common.{◌≡◌, ℕ, zero, suc, inl, inr, not, ◌||◌, ◌+◌, ◌*◌, ◌/◌, ◌%◌, ◌^◌, ◌<◌, List, [], ◌∷◌, ◌++◌, length, drop, Option, Some, None, Result, Ok, Err, refl, sym, ap, ◌∙◌, arith}
+use Rattle.std.specs.Prelude.{bytes_eq, IfErr, IfOk, IsOkAnd, nat_lt, OnOk}
 use Rattle.std.specs.Int.{bit_at}
 use Rattle.std.specs.List.{AllByRecursion}
 use Rattle.std.proofs.Math.Nat.{pow-suc}
@@ -12,7 +12,7 @@ use Rattle.sz_der.specs.declared.tag.TheConstants.{OBJECT_IDENTIFIER, OCTET_STRI
 use Rattle.sz_x509.specs.Certificate.{Certificate, CertOf}
 use Rattle.sz_x509.specs.CertFault.{algorithm_fault, cert_fault, each_fault, end, extension_fault, extensions_fault, extensions_spot, flag_at, flag_fault, flag_spot, identifier_at, integer_fault, issuer_id_spot, issuer_spot, key_fault, key_spot, key_usage_fault, octets_at, part, serial_spot, stands_among, subject_id_spot, subject_spot, tbs_parts_fault, unique_id_fault, validity_fault, validity_spot, value_fault, value_spot, version_fault}
 use Rattle.sz_x509.specs.CertPlaces.{ca_at, extension_spots, FieldsAt, key_at, key_id_at, path_len_at, RestrictedAt, seconds_at, UsageAt, value_among}
-use Rattle.sz_x509.specs.Extensions.{is_known, Restrictions}
+use Rattle.sz_x509.specs.Extensions.{is_known, most_extensions, Restrictions}
 use Rattle.sz_x509.specs.Parts.{after, after_optional, content_at, front, inside, is_next, rule, Spot, spots_from, whole_at}
 use Rattle.sz_x509.specs.View.{at, view}
 use Rattle.sz_x509.specs.declared.cert.Cert.{Cert}
@@ -137,6 +137,7 @@ unfolding extension_fault
 value_of_none earlier spot n =
     let rules = all_none (
     part kinds.Der SEQUENCE spot
+    ∷ rule (nat_lt (length earlier) most_extensions) kinds.Extension spot
     ∷ part kinds.Der OBJECT_IDENTIFIER (inside spot)
     ∷ rule (not (stands_among earlier (identifier_at spot))) kinds.Extension spot
     ∷ flag_fault (flag_spot spot)
@@ -145,7 +146,7 @@ value_of_none earlier spot n =
     ∷ end kinds.Der (after (value_spot spot))
     ∷ value_fault (identifier_at spot) (inside (value_spot spot))
     ∷ []) n in
-    rules.1.1.1.1.1.1.1.0
+    rules.1.1.1.1.1.1.1.1.0
 
 values_hold : (earlier later : List Spot) → each_fault earlier later ≡ None → AllByRecursion ValueHolds later
 unfolding each_fault

@@ -1,11 +1,11 @@
 -- What extensions restrict a certificate to, by their list and by their places.
-use Rattle.std.proofs.Common.{◌≡◌, ◌≢◌, ℕ, inl, inr, ◌⊎◌, Bool, List, [], ◌∷◌, Option, Some, None, refl, sym, ap, ◌∙◌}
+use Rattle.std.proofs.Common.{◌≡◌, ◌≢◌, ◌≤◌, ℕ, inl, inr, ◌⊎◌, Bool, List, [], ◌∷◌, length, Option, Some, None, refl, sym, ap, ◌∙◌}
 use Rattle.std.specs.Prelude.{bytes_eq}
 use Rattle.std.specs.List.{AllByRecursion}
 use Rattle.std.proofs.lemmas.Bool.{cases_Bool, false_from_ne_true}
 use Rattle.sz_x509.specs.CertFault.{basic_constraints_fault, identifier_at, key_identifier_fault, key_usage_fault, value_fault, value_spot}
 use Rattle.sz_x509.specs.CertPlaces.{ca_at, key_id_at, path_len_at, RestrictedAt, UsageAt, value_among}
-use Rattle.sz_x509.specs.Extensions.{AreDistinct, Extension, HasBasicConstraints, HasKeyIdentifier, HasKeyUsage, Restrict, Restrictions, value_of}
+use Rattle.sz_x509.specs.Extensions.{AreDistinct, Extension, HasBasicConstraints, HasKeyIdentifier, HasKeyUsage, most_extensions, Restrict, Restrictions, value_of}
 use Rattle.sz_x509.specs.Parts.{content_at, inside, Spot}
 use Rattle.sz_x509.specs.declared.identifier.TheConstants.{BASIC_CONSTRAINTS, KEY_USAGE, SUBJECT_KEY_IDENTIFIER}
 use Rattle.sz_x509.proofs.Spots.{inside-left}
@@ -108,9 +108,10 @@ key_id_from_places spots key_id keep at =
           rw is.value (content_at value, rw is.among at at, IsKeyIdentifier_from_none value is.keeps.octets clear)
     ]
 
-pub restrict_from_places : (spots : List Spot) (restrictions : Restrictions) → AllByRecursion Keeps spots → AreDistinct (extensions_at spots) →
-    RestrictedAt spots restrictions → Restrict (extensions_at spots) restrictions
-restrict_from_places spots restrictions keep distinct at = record {
+pub restrict_from_places : (spots : List Spot) (restrictions : Restrictions) → AllByRecursion Keeps spots →
+    length (extensions_at spots) ≤ most_extensions → AreDistinct (extensions_at spots) → RestrictedAt spots restrictions → Restrict (extensions_at spots) restrictions
+restrict_from_places spots restrictions keep few distinct at = record {
+  few = few;
   distinct = distinct;
   understood = are_understood spots keep;
   basic_constraints = basic_from_places spots restrictions.ca restrictions.path_len keep at.ca at.path_len;

@@ -6,7 +6,7 @@ use Rattle.sz_calendar.specs.CivilTime.{CivilTime, IsReal, unix_seconds}
 use Rattle.sz_der.specs.Der.{AreOctets, Der}
 use Rattle.sz_der.specs.Time.{NamesTime}
 use Rattle.sz_der.specs.declared.tag.TheConstants.{BIT_STRING, CONTEXT_CONSTRUCTED, INTEGER, OBJECT_IDENTIFIER, SEQUENCE}
-use Rattle.sz_x509.specs.Certificate.{IsAlgorithm, IsKey, IsSerial, IsSignature, IsTime, IsValidity, IsVersion3}
+use Rattle.sz_x509.specs.Certificate.{IsHssAlgorithm, IsKey, IsSerial, IsSignature, IsTime, IsValidity, IsVersion3}
 use Rattle.sz_x509.specs.CertFault.{algorithm_fault, bits_of_key, holds_key, integer_fault, key_fault, octets_at, octets_fault, time_fault, validity_fault, version_fault}
 use Rattle.sz_x509.specs.CertPlaces.{key_at, seconds_at}
 use Rattle.sz_x509.specs.Contents.{is_integer, is_time, is_whole_octets, time_in}
@@ -37,7 +37,7 @@ Der_with {tag} {content} {other} {whole} same item = subst (λ (x : List ℕ). D
 
 -- ---- AlgorithmIdentifier
 
-pub IsAlgorithm_from_none : (spot : Spot) → AreOctets spot.left → algorithm_fault spot ≡ None → IsAlgorithm (whole_at spot) × Found spot SEQUENCE
+pub IsAlgorithm_from_none : (spot : Spot) → AreOctets spot.left → algorithm_fault spot ≡ None → IsHssAlgorithm (whole_at spot) × Found spot SEQUENCE
 unfolding algorithm_fault
 IsAlgorithm_from_none spot fits n =
     let a = parts_of_none _ _ n in
@@ -57,7 +57,7 @@ IsAlgorithm_from_none spot fits n =
       sequence,
     )
 
-pub algorithm_clear : (spot : Spot) (whole rest : List ℕ) → IsAlgorithm whole → spot.left ≡ whole ++ rest →
+pub algorithm_clear : (spot : Spot) (whole rest : List ℕ) → IsHssAlgorithm whole → spot.left ≡ whole ++ rest →
     (algorithm_fault spot ≡ None) × ((after spot).left ≡ rest)
 unfolding algorithm_fault
 algorithm_clear spot whole rest is joined =

@@ -2,7 +2,7 @@
 use Rattle.std.proofs.Common.{◌≡◌, ℕ, ◌-◌, Bool, true, false, List, [], ◌∷◌, length, Option, Some, None, Result, Ok, Err, refl, sym, ap, ◌∙◌, arith, length-append}
 use Rattle.std.specs.Prelude.{◌==◌, bytes_eq, IfErr, IsErrAnd, slice_get}
 use Rattle.std.proofs.lemmas.Bool.{false_from_ne_true, ne_eqb, eq-eqb, eqb-true, true≢false}
-use Rattle.sz_der.specs.Reader.{IsFrontFault, Takes}
+use Rattle.sz_der.specs.Reader.{IsFrontFault, TakesItem}
 use Rattle.sz_der.specs.declared.fault.DerFault.{DerFault}
 use Rattle.sz_der.specs.declared.item.Item.{Item}
 use Rattle.sz_der.specs.declared.reader.DerReader.{DerReader}
@@ -22,7 +22,7 @@ exit (Err e) found fault is h = rw is h
 
 -- ---- an item that a reader takes
 
-module _ (old new : DerReader) (tag : ℕ) (content whole : List ℕ) (end : ℕ) (taken : Takes old.end old.left.now new.left.now tag content whole end)
+module _ (old new : DerReader) (tag : ℕ) (content whole : List ℕ) (end : ℕ) (taken : TakesItem old.end old.left.now new.left.now tag content whole end)
     (stays : new.end ≡ old.end) where
   pub here : Stands (spot_of old) tag content whole new.left.now
   unfolding spot_of
@@ -40,7 +40,7 @@ module _ (old new : DerReader) (tag : ℕ) (content whole : List ℕ) (end : ℕ
   unfolding spot_of place_at
   place_before = omega (arith, taken.ends, ap length taken.item.joined, length-append whole new.left.now)
 
-pub item_there : (old new : DerReader) (item : Item) → Takes old.end old.left.now new.left.now item.tag item.content.now item.whole.now item.after →
+pub item_there : (old new : DerReader) (item : Item) → TakesItem old.end old.left.now new.left.now item.tag item.content.now item.whole.now item.after →
     new.end ≡ old.end → IsItemAt (spot_of old) item
 item_there old new item taken stays =
     let is = here old new item.tag item.content.now item.whole.now item.after taken stays in

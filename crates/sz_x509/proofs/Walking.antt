@@ -1,12 +1,13 @@
 -- A walk over extensions: the spots from the first one up to here, and those that are left.
 use Rattle.std.proofs.Common.{◌≡◌, ℕ, zero, suc, inl, inr, ◌<◌, ◌≤◌, true, false, List, [], ◌∷◌, ◌++◌, length, Option, Some, None, refl, sym, ap, subst, ◌∙◌, arith, length-drop}
-use Rattle.std.specs.Prelude.{bytes_eq}
+use Rattle.std.specs.Prelude.{bytes_eq, nat_lt}
 use Rattle.std.specs.List.{AllByRecursion}
-use Rattle.std.proofs.lemmas.Bool.{cases_Bool, eqb-false, ne_eqb, or_left}
+use Rattle.std.proofs.lemmas.Bool.{cases_Bool, eqb-false, le-ltb, lt-ltb, ne_eqb, or_left}
 use Rattle.sz_der.proofs.Front.{Clear_from_none}
 use Rattle.sz_der.specs.declared.reader.DerReader.{DerReader}
 use Rattle.sz_x509.specs.CertFault.{each_fault, extension_fault, Fault, identifier_at, part, stands_among}
 use Rattle.sz_x509.specs.CertPlaces.{AreBetween, BeginsExtension, LeadHere}
+use Rattle.sz_x509.specs.Extensions.{most_extensions}
 use Rattle.sz_x509.specs.Parts.{after, is_at_end, or_later, size_at, Spot, spot_of, spots_from, spots_upto}
 use Rattle.sz_x509.specs.declared.fault.CertKind.{CertKind}
 use Rattle.sz_x509.specs.declared.fault.CertKind.TheVariants as kinds
@@ -101,7 +102,16 @@ unfolding extension_fault
 begins_from_none earlier spot e =
     let a = parts_of_none _ _ e in
     let b = parts_of_none _ _ a.1 in
-    record { sequence = a.0; identifier = b.0 }
+    let c = parts_of_none _ _ b.1 in
+    record { sequence = a.0; identifier = c.0 }
+
+-- whether one more extension may stand after so many
+pub has_room : (earlier : List Spot) (before : ℕ) → length earlier ≡ before → before < most_extensions → nat_lt (length earlier) most_extensions ≡ true
+has_room earlier before count few = rw count (lt-ltb before most_extensions few)
+
+pub has_no_room : (earlier : List Spot) (before : ℕ) → length earlier ≡ before → most_extensions ≤ before →
+    nat_lt (length earlier) most_extensions ≡ false
+has_no_room earlier before count many = rw count (le-ltb before most_extensions many)
 
 -- ---- the way up to here
 

@@ -14,7 +14,7 @@ use Rattle.sz_x509.specs.declared.tag.TheConstants.{EXTENSIONS, ISSUER_UNIQUE_ID
 use Rattle.sz_x509.proofs.Spots.{end_from_nothing, Found, found_part, inside-left, no_part-stands, nothing_left, parts_of_none, stands}
 use Rattle.sz_x509.proofs.Spelled.{algorithm_clear, alone, and_then, Der_with, IsAlgorithm_from_none, IsKey_from_none, IsSerial_from_none, IsSignature_from_none, IsValidity_from_none, IsVersion3_from_none, key_clear, last, serial_clear, signature_clear, validity_clear, version_clear}
 use Rattle.sz_x509.proofs.Chains.{absent, after_next, after_other, BeginsWithout, found_next, IsUniqueId_from_none, next_stands, Optional, present, unique_id_clear, without_item, without_nothing, without_unique_id}
-use Rattle.sz_x509.proofs.ExtensionLists.{are_distinct, are_extensions, clear_each, extensions_at}
+use Rattle.sz_x509.proofs.ExtensionLists.{are_distinct, are_extensions, are_few, clear_each, extensions_at}
 use Rattle.sz_x509.proofs.Restricted.{each_value_is_clear, places_from_restrict, restrict_from_places}
 
 -- ---- the field of extensions
@@ -42,7 +42,7 @@ HasExtensions_from_none field restrictions fits n at =
           let list = inside (inside field) in
           let are = are_extensions (length list.left) [] list (omega arith) sequence.inside c.0 in
           let only = last (whole_at (inside field)) sequence.joined (nothing_left kinds.Der (after (inside field)) d.0) in
-          let restrict = restrict_from_places (spots_from list) restrictions are.1 (are_distinct [] (spots_from list) c.0)
+          let restrict = restrict_from_places (spots_from list) restrictions are.1 (are_few (spots_from list) c.0) (are_distinct [] (spots_from list) c.0)
           (rw (spots_next field next) at at) in
           present field EXTENSIONS (HasExtensions restrictions) here next (record {
             extensions = extensions_at (spots_from list);
@@ -58,7 +58,7 @@ HasExtensions_from_none field restrictions fits n at =
       | inr other ↦ absent field EXTENSIONS (HasExtensions restrictions) fits other (record {
         extensions = [];
         in_field = inl (refl, refl);
-        restrict = restrict_from_places [] restrictions tt tt (rw (spots_other field other) at at);
+        restrict = restrict_from_places [] restrictions tt (omega arith) tt (rw (spots_other field other) at at);
       })
     ]
 
@@ -85,7 +85,7 @@ extensions_clear field restrictions piece is left =
           let sequence = stands (inside field) SEQUENCE some.0 some.1 [] some.3 (alone some.1 here.inside_is) in
           let list = inside (inside field) in
           let each = clear_each (length list.left) [] list is.extensions (omega arith) (rw sequence.inside_is some.2)
-          (none_is_new is.extensions) is.restrict.distinct is.restrict.understood (each_value_is_clear is.extensions restrictions is.restrict) in
+          (omega (arith, is.restrict.few)) (none_is_new is.extensions) is.restrict.distinct is.restrict.understood (each_value_is_clear is.extensions restrictions is.restrict) in
           let restrict : Restrict (extensions_at (spots_from list)) restrictions = rw each.1 is.restrict in (
             rw (
               next,

@@ -1,11 +1,11 @@
 -- The first fault of a certificate, as a function of its bytes: tables of rules over the items at their places, each
 -- item's header before its content, in the order of the bytes.
-use Rattle.std.specs.Prelude.{ℕ, ◌+◌, ◌&&◌, ◌||◌, ◌==◌, not, if◌then◌else◌, Bool, List, [], ◌∷◌, ◌++◌, length, take, drop, Option, None, bytes_eq}
+use Rattle.std.specs.Prelude.{ℕ, ◌+◌, ◌&&◌, ◌||◌, ◌==◌, not, if◌then◌else◌, Bool, List, [], ◌∷◌, ◌++◌, length, take, drop, Option, None, bytes_eq, nat_lt}
 use Rattle.std.specs.List.{list_any}
 use Rattle.sz_der.specs.declared.tag.TheConstants.{BIT_STRING, BOOLEAN, CONTEXT_CONSTRUCTED, INTEGER, OBJECT_IDENTIFIER, OCTET_STRING, SEQUENCE}
 use Rattle.sz_x509.specs.Certificate.{key_length}
 use Rattle.sz_x509.specs.Contents.{is_bits, is_boolean, is_integer, is_time, is_true_content, is_u32, is_whole_octets}
-use Rattle.sz_x509.specs.Extensions.{is_known}
+use Rattle.sz_x509.specs.Extensions.{is_known, most_extensions}
 use Rattle.sz_x509.specs.Parts.{after, after_optional, content_at, first_of, front, if_next, inside, is_next, no_end, no_item, no_part, rule, Spot, spots_from, tag_at}
 use Rattle.sz_x509.specs.declared.fault.CertKind.{CertKind}
 use Rattle.sz_x509.specs.declared.fault.CertKind.TheVariants as kind
@@ -161,11 +161,12 @@ value_spot spot = after_optional BOOLEAN (flag_spot spot)
 unfoldable pub stands_among : List Spot → List ℕ → Bool
 stands_among spots identifier = list_any (λ spot. bytes_eq (identifier_at spot) identifier) spots
 
--- Extension, after those at the earlier spots: whether it stands twice is told by its identifier, and whether it is
--- critical and not known by its flag.
+-- Extension, after those at the earlier spots: whether it is one too many is told by their number, whether it stands
+-- twice by its identifier, and whether it is critical and not known by its flag.
 unfoldable pub extension_fault : List Spot → Spot → Option Fault
 extension_fault earlier spot = first_of (
     part kind.Der SEQUENCE spot
+    ∷ rule (nat_lt (length earlier) most_extensions) kind.Extension spot
     ∷ part kind.Der OBJECT_IDENTIFIER (inside spot)
     ∷ rule (not (stands_among earlier (identifier_at spot))) kind.Extension spot
     ∷ flag_fault (flag_spot spot)

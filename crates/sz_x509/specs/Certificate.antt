@@ -26,7 +26,7 @@ pub record Certificate : Type 0 where
 -- ---- parts that stand in revocation lists too
 
 -- AlgorithmIdentifier (4.1.1.2) of HSS/LMS signatures, which has no parameters (RFC 8708 section 3)
-pub record IsAlgorithm (bytes : List ℕ) : Type 0 where
+pub record IsHssAlgorithm (bytes : List ℕ) : Type 0 where
   pub identifier : List ℕ
   pub is_identifier : Der OBJECT_IDENTIFIER HSS_LMS identifier
   pub is_sequence : Der SEQUENCE identifier bytes
@@ -83,7 +83,7 @@ pub record IsKey (key bytes : List ℕ) : Type 0 where
   pub algorithm : List ℕ
   pub octets : List ℕ
   pub bits : List ℕ
-  pub is_algorithm : IsAlgorithm algorithm
+  pub is_algorithm : IsHssAlgorithm algorithm
   pub holds_key : HoldsKey key octets
   pub is_bits : Der BIT_STRING (0 ∷ octets) bits
   pub is_sequence : Der SEQUENCE (algorithm ++ bits) bytes
@@ -114,7 +114,7 @@ pub record IsTbs (fields : Certificate) (bytes : List ℕ) : Type 0 where
   pub parts : TbsParts
   pub is_version : IsVersion3 parts.version
   pub is_serial : IsSerial fields.serial parts.serial
-  pub is_algorithm : IsAlgorithm parts.algorithm
+  pub is_algorithm : IsHssAlgorithm parts.algorithm
   pub is_issuer : IsName fields.issuer
   pub is_validity : IsValidity fields.not_before fields.not_after parts.validity
   pub is_subject : IsName fields.subject
@@ -130,6 +130,6 @@ pub record CertOf (bytes : List ℕ) (fields : Certificate) : Type 0 where
   pub bits : List ℕ
   pub whole : fields.whole ≡ bytes
   pub is_tbs : IsTbs fields fields.tbs
-  pub is_algorithm : IsAlgorithm algorithm
+  pub is_algorithm : IsHssAlgorithm algorithm
   pub is_signature : IsSignature fields.signature bits
   pub is_sequence : Der SEQUENCE (fields.tbs ++ (algorithm ++ bits)) bytes

@@ -1,5 +1,5 @@
 -- The extensions of a certificate as a relation on whole strings (RFC 5280 sections 4.1 and 4.2).
-use Rattle.std.specs.Prelude.{◌≡◌, ◌≢◌, ◌⊎◌, ◌<◌, ◌^◌, ℕ, pos, ⊤, Bool, true, false, List, [], ◌∷◌, ◌++◌, Option, Some, None, option_map, bytes_eq}
+use Rattle.std.specs.Prelude.{◌≡◌, ◌≢◌, ◌⊎◌, ◌<◌, ◌≤◌, ◌^◌, ℕ, pos, ⊤, Bool, true, false, List, [], ◌∷◌, ◌++◌, Option, Some, None, length, option_map, bytes_eq}
 use Rattle.std.specs.List.{AllByRecursion, find, list_any}
 use Rattle.sz_der.specs.Content.{IsBoolean, HoldsBits}
 use Rattle.sz_der.specs.Der.{Der}
@@ -42,6 +42,10 @@ AreInField extensions bytes =
     × Der SEQUENCE content sequence × Der EXTENSIONS sequence bytes)
 
 -- ---- what extensions say together
+
+-- how many extensions a certificate may have; the RFC sets no limit
+abbrev pub most_extensions : ℕ
+most_extensions = 32
 
 -- no identifier stands twice (4.2)
 abbrev pub AreDistinct : List Extension → Type 0
@@ -108,8 +112,9 @@ abbrev pub HasKeyIdentifier : Option (List ℕ) → Option (List ℕ) → Type 0
 HasKeyIdentifier None key_id = key_id ≡ None
 HasKeyIdentifier (Some value) key_id = (octets : List ℕ) × (key_id ≡ Some octets) × Der OCTET_STRING octets value
 
--- the extensions are distinct and understood, and restrict a certificate to this
+-- the extensions are few, distinct and understood, and restrict a certificate to this
 pub record Restrict (extensions : List Extension) (restrictions : Restrictions) : Type 0 where
+  pub few : length extensions ≤ most_extensions
   pub distinct : AreDistinct extensions
   pub understood : AllByRecursion IsUnderstood extensions
   pub basic_constraints :

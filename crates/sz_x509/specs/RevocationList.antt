@@ -3,7 +3,7 @@ use Rattle.std.specs.Prelude.{◌≡◌, ◌⊎◌, ℕ, ℤ, Bool, false, List,
 use Rattle.std.specs.List.{list_any}
 use Rattle.sz_der.specs.Der.{Der}
 use Rattle.sz_der.specs.declared.tag.TheConstants.{CONTEXT_CONSTRUCTED, INTEGER, SEQUENCE}
-use Rattle.sz_x509.specs.Certificate.{IsAlgorithm, IsName, IsSerial, IsSignature, IsTime}
+use Rattle.sz_x509.specs.Certificate.{IsHssAlgorithm, IsName, IsSerial, IsSignature, IsTime}
 use Rattle.sz_x509.specs.Extensions.{Extension, IsExtension}
 use Rattle.sz_x509.specs.Parts.{AreEach}
 
@@ -77,7 +77,7 @@ pub record IsTbsList (fields : RevocationList) (bytes : List ℕ) : Type 0 where
   pub revoked : List ℕ
   pub extensions : List ℕ
   pub is_version : IsListVersion version
-  pub is_algorithm : IsAlgorithm algorithm
+  pub is_algorithm : IsHssAlgorithm algorithm
   pub is_issuer : IsName fields.issuer
   pub is_this_update : IsTime fields.this_update this_update
   pub is_next_update : IsNextUpdate fields.next_update next_update
@@ -92,7 +92,7 @@ pub record CrlOf (bytes : List ℕ) (fields : RevocationList) : Type 0 where
   pub bits : List ℕ
   pub whole : fields.whole ≡ bytes
   pub is_tbs : IsTbsList fields fields.tbs
-  pub is_algorithm : IsAlgorithm algorithm
+  pub is_algorithm : IsHssAlgorithm algorithm
   pub is_signature : IsSignature fields.signature bits
   pub is_sequence : Der SEQUENCE (fields.tbs ++ (algorithm ++ bits)) bytes
 

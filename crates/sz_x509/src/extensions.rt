@@ -3,7 +3,7 @@
 ghost use Rattle.std.specs.Prelude.{◌≡◌, ◌<◌, None, Some, List, [], true, false, length, IfOk, IfErr, OnErr, OnOk};
 ghost use Rattle.sz_x509.specs.CertFault.{basic_constraints_fault, each_fault, extension_fault, extensions_fault, flag_at, identifier_at, key_identifier_fault, key_usage_fault, path_length_fault, path_length_spot, stands_among, value_fault, value_spot};
 ghost use Rattle.sz_x509.specs.CertPlaces.{Adds, BeginsExtension, extension_spots, LeadHere, path_length_at, RestrictedAt, UsageAt};
-ghost use Rattle.sz_x509.specs.Extensions.{is_known};
+ghost use Rattle.sz_x509.specs.Extensions.{is_known, most_extensions};
 ghost use Rattle.sz_x509.specs.Parts.{after, after_optional, content_at, inside, Spot, spot_of, spots_from};
 ghost use Rattle.sz_x509.specs.View.{at, extensions_of};
 
@@ -18,6 +18,9 @@ use crate::tag::EXTENSIONS;
 use crate::{CertFault, CertKind};
 use sz_der::tag::{BIT_STRING, INTEGER, OBJECT_IDENTIFIER, OCTET_STRING, SEQUENCE};
 use sz_der::{DerReader, integer_u32, named_bits};
+
+// How many extensions a certificate may have: each is compared with all before it.
+const MOST_EXTENSIONS: usize = 32;
 
 /// What extensions restrict a certificate to.
 #[derive(Clone, Copy)]
@@ -67,29 +70,36 @@ fn read_extensions<'a>(all: &DerReader<'a>) -> Result<Restrictions<'a>, CertFaul
 {
     let mut reader = *all;
     let mut restrictions = UNRESTRICTED;
+    let mut before = 0;
     while !reader.is_at_end() {
-        restrictions = take_extension(&mut reader, all, restrictions)?;
+        restrictions = take_extension(&mut reader, all, before, restrictions)?;
+        before += 1;
     }
     Ok(restrictions)
 }
 
-// Takes the next extension, after those that stand before it, and adds what it says.
+// Takes the next extension, after so many that stand before it, and adds what it says.
 fn take_extension<'a>(
     reader: &mut DerReader<'a>,
     all: &DerReader<'a>,
+    before: usize,
     restrictions: Restrictions<'a>,
 ) -> Result<Restrictions<'a>, CertFault>
     ensures ok { (earlier : List Spot) → LeadHere (spot_of all.now) earlier (spot_of reader.old)
-        → OnOk result (extension_fault earlier (spot_of reader.old) ≡ None) }
+        → length earlier ≡ before → OnOk result (extension_fault earlier (spot_of reader.old) ≡ None) }
+    ensures few { OnOk result (before < most_extensions) }
     ensures adds { let spot = spot_of reader.old in IfOk result (λ found. Adds (identifier_at spot)
         (inside (value_spot spot)) (extensions_of restrictions.entry) (extensions_of found)) }
     ensures next { OnOk result (spot_of reader.new ≡ after (spot_of reader.old)) }
     ensures shorter { OnOk result (length reader.new.left.now < length reader.old.left.now) }
     ensures fault { (earlier : List Spot) → LeadHere (spot_of all.now) earlier (spot_of reader.old)
-        → IfErr result (λ fault. extension_fault earlier (spot_of reader.old) ≡ Some (at fault)) }
+        → length earlier ≡ before → IfErr result (λ fault. extension_fault earlier (spot_of reader.old) ≡ Some (at fault)) }
 {
     let here = *reader;
     let extension = take_part(reader, SEQUENCE, CertKind::Der)?;
+    if before >= MOST_EXTENSIONS {
+        return Err(fault_of(&extension, CertKind::Extension));
+    }
     let mut parts = parts_of(&extension);
     let identifier = take_part(&mut parts, OBJECT_IDENTIFIER, CertKind::Der)?.content;
     if stands_before(all, &here, identifier) {

@@ -6,10 +6,9 @@ use std::alloc::Global;
 use std::test::Fail;
 use std::thread::Threads;
 use sz_base::{Bytes, Certs, Seconds};
-use sz_chain::{Bag, ChainFault, Why, signed_by};
+use sz_chain::{Bag, ChainFault, Slices, Why, signed_by};
 use sz_cms::{Identifier, Kind, Signed, Signer};
 use sz_fixtures::{CertTemplate, Change, CrlTemplate, Keys};
-use sz_path::Slices;
 use sz_x509::Cert;
 
 const CONTENT: &[u8] = b"what is signed";

@@ -1,4 +1,4 @@
-//! These tests show which chains of certificates, messages and evidence are taken, over `sz_path`, `sz_chain` and
+//! These tests show which chains of certificates, messages and evidence are taken, over `sz_chain` and
 //! `sz_evidence`.
 #![tactic(auto)]
 

@@ -2,11 +2,11 @@
 
 use std::test::Fail;
 use sz_base::Seconds;
-use sz_cms::Covered;
-use sz_path::{
+use sz_chain::{
     Bag, BagFull, CrlBag, MOST_CERTS, MOST_PLACES, NoChain, Place, PlaceSet, Places, Test,
     find_chain, places_of, select, select_verifying,
 };
+use sz_cms::Covered;
 
 #[test]
 fn a_full_bag_stays(rt: HostRuntime) {

@@ -8,7 +8,7 @@ use crate::meeting::Meeting;
 use sha2::{Digest, Sha256};
 use std::alloc::Global;
 use std::test::Fail;
-use std::thread::Threads;
+use std::thread::{Threads, available_parallelism};
 use sz_lms::{LmsType, OtsType};
 use sz_lms_tree::{Gate, OpenGate, Part, Secret, Tree, child, leaf, root};
 
@@ -217,19 +217,28 @@ fn a_child_hangs_below_its_leaf(rt: HostRuntime) {
     assert!(rt; lower.id == LOWER_ID && root(&lower) == LOWER_ROOT);
 }
 
-// Types of trees of the same seed and identifier, and how many halves begin. The first is one subtree, which is not
-// halved. The other has 32 of them, for which 31 pairs of halves begin.
-static HALVES: [(LmsType, OtsType, u64); 2] = [
-    (LmsType::H5, OtsType::W8, 0),
-    (LmsType::H10, OtsType::W1, 62),
+// Types of trees of the same seed and identifier, and whether they are halved: the first is one subtree, the other has
+// 32 of them.
+static HALVES: [(LmsType, OtsType, bool); 2] = [
+    (LmsType::H5, OtsType::W8, false),
+    (LmsType::H10, OtsType::W1, true),
 ];
 
-// Whether so many halves begin, of which two meet, and the nodes are those of the whole tree.
+// How many halves begin at most: each processor has one job, and there are two at least; a job more is two halves.
+fn most_halves<R: Threads>(rt: &R) -> u64 {
+    match available_parallelism(rt) {
+        Ok(processors) => 2 * (processors.get() as u64).clamp(2, 32) - 2,
+        Err(_) => 2,
+    }
+}
+
+// Whether halves begin, not too many, of which two meet, where the tree is halved, and the nodes are those of the whole
+// tree.
 fn halves_meet<R: Threads + Sync>(
     rt: &R,
     alloc: Global,
     secret: &Secret,
-    halves: u64,
+    is_halved: bool,
 ) -> Result<bool, Fail>
     requires height { IsTrue (is_height secret.now.height) }
     requires width { IsTrue (is_width secret.now.width) }
@@ -237,9 +246,11 @@ fn halves_meet<R: Threads + Sync>(
     let gate = Meeting::of(Part::Half);
     let tree = Tree::build_halves(rt, &gate, alloc, secret)?;
     let whole = Tree::build(alloc, secret)?;
+    let begun = gate.entered();
     Ok(
-        gate.entered() == halves
-            && gate.met() == (halves > 0)
+        (begun > 0) == is_halved
+            && begun <= most_halves(rt)
+            && gate.met() == is_halved
             && whole.nodes() == tree.nodes()
             && is_of_secret(&tree, secret),
     )
@@ -263,9 +274,9 @@ fn is_of_secret(tree: &Tree, secret: &Secret) -> bool {
 
 #[test]
 fn a_tree_by_halves_is_the_whole_tree(rt: HostRuntime) -> Result<(), Fail> {
-    for (tree, one_time, halves) in &HALVES {
-        let secret = secret(*tree, *one_time, [0x01; 32], [0x11; 16]);
-        assert!(rt; halves_meet(&rt, rt.alloc(), &secret, *halves)?);
+    for &(tree, one_time, is_halved) in &HALVES {
+        let secret = secret(tree, one_time, [0x01; 32], [0x11; 16]);
+        assert!(rt; halves_meet(&rt, rt.alloc(), &secret, is_halved)?);
     }
     Ok(())
 }

@@ -2,8 +2,8 @@
 
 use std::alloc::{AllocError, Global};
 use std::test::Fail;
+use sz_artifacts::Handling;
 use sz_base::{Bytes, Seconds, Text};
-use sz_conveyed::Handling;
 use sz_record::{
     Committed, Device, Image, RecordFault, Stage, installed_size, is_storable, onboarded_size,
     read, size, write,

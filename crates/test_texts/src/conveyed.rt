@@ -6,10 +6,10 @@ use crate::conveyed_texts::{
 use crate::wanted::{are, fault_of};
 use std::alloc::{AllocError, Global};
 use std::test::Fail;
-use sz_base::{Bytes, Text};
-use sz_conveyed::{
+use sz_artifacts::{
     Conveyed, Handling, Onboarding, is_onboarding, write_onboarding, write_redirect,
 };
+use sz_base::{Bytes, Text};
 use sz_json::{JsonFault, Name};
 
 /// What a text is.

@@ -5,8 +5,8 @@ use std::test::Fail;
 use sz_base::{Bytes, OutOfMemory, Seconds};
 use sz_json::{
     JsonFault, Name, Object, Value, binary, date_time, flag, list, member, number, object, port,
-    read, required_binary, required_object, required_string, required_text, required_time, single,
-    string, text, time, write,
+    read, read_bounded, required_binary, required_object, required_string, required_text,
+    required_time, single, string, text, time, write,
 };
 
 const MEMBERS: &[u8] =
@@ -135,6 +135,37 @@ fn is_json(alloc: Global, parts: &[&[u8]]) -> Result<bool, Fail> {
 fn texts_are_told_from_others(rt: HostRuntime) -> Result<(), Fail> {
     for &(parts, want) in TEXTS {
         assert!(rt; is_json(rt.alloc(), parts)? == want);
+    }
+    Ok(())
+}
+
+// JSON by its parts, of which the second stands so many times, and whether it is taken of a source
+const BOUNDED: &[(&str, &str, usize, &str, bool)] = &[
+    ("[0", ",0", 16_383, "]", true),
+    ("[0", ",0", 16_384, "]", false),
+    ("[\"", "{[,:", 16_384, "\"]", true),
+    ("[\"\\\"", ",", 16_384, "\"]", true),
+    ("[\"\\\\\"", ",0", 16_384, "]", false),
+];
+
+fn is_taken(
+    alloc: Global,
+    first: &str,
+    many: &str,
+    times: usize,
+    last: &str,
+    want: bool,
+) -> Result<bool, Fail> {
+    let middle = many.repeat(alloc, times)?;
+    let text = format!(in alloc; "{first}{middle}{last}")?;
+    let _value = read(alloc, text.as_bytes())?;
+    Ok(read_bounded(alloc, text.as_bytes()).is_ok() == want)
+}
+
+#[test]
+fn texts_of_a_source_are_bounded(rt: HostRuntime) -> Result<(), Fail> {
+    for &(first, many, times, last, want) in BOUNDED {
+        assert!(rt; is_taken(rt.alloc(), first, many, times, last, want)?);
     }
     Ok(())
 }

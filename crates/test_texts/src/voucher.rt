@@ -2,9 +2,9 @@
 
 use crate::wanted::fault_of;
 use std::alloc::Global;
+use sz_artifacts::{Assertion, Voucher, VoucherFault, judge, write_voucher};
 use sz_base::{BaseFault, Bytes, Moment, Seconds, Serial, Text};
 use sz_json::{JsonFault, Name};
-use sz_voucher::{Assertion, Voucher, VoucherFault, judge, write_voucher};
 
 // the example of RFC 8366 section 3.2 with members of its section 5.2, bytes in base64
 const LOGGED: &[u8] = br#"{

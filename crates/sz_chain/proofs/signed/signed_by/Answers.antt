@@ -3,7 +3,7 @@ use Rattle.std.proofs.lemmas.Option.{same_Some}
 use Rattle.std.specs.Option.{option_copied}
 use Rattle.sz_cms.specs.View.{signed_of, signer_of}
 use Rattle.sz_cms.specs.declared.signer.Signer.{Signer}
-use Rattle.sz_chain.specs.Places.{AreFitting}
+use Rattle.sz_chain.specs.Candidates.{AreFitting}
 use Rattle.sz_chain.specs.SignedBy.{HasFitting, HasSigner}
 use Rattle.sz_chain.specs.declared.fault.ChainFault.TheVariants as fault
 use Rattle.sz_chain.proofs.Facts.{no_fitting}

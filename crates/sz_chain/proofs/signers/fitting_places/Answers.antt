@@ -1,7 +1,7 @@
 use Rattle.std.proofs.Common.{List, subst}
 use Rattle.sz_cms.specs.Message as message
-use Rattle.sz_path.specs.Sets.{AreAt}
-use Rattle.sz_chain.specs.Places.{FitsOne}
+use Rattle.sz_chain.specs.Sets.{AreAt}
+use Rattle.sz_chain.specs.Candidates.{FitsOne}
 use Rattle.sz_chain.proofs.OneSigner.{all_signers, fits_step}
 use Rattle.sz_chain.proofs.signers.fitting_places.Goals as goal
 

@@ -1,7 +1,7 @@
 use Rattle.std.proofs.Common.{map, take}
 use Rattle.sz_cms.specs.View.{signer_of}
-use Rattle.sz_path.specs.Sets.{AreAt}
-use Rattle.sz_chain.specs.Places.{FitsOne}
+use Rattle.sz_chain.specs.Sets.{AreAt}
+use Rattle.sz_chain.specs.Candidates.{FitsOne}
 use Rattle.sz_chain.proofs.signers.fitting_places.Given as goal
 
 abbrev pub invariant-loop-signer : goal.invariant-loop-signer

@@ -1,7 +1,7 @@
 use Rattle.std.proofs.Common.{List, subst}
 use Rattle.sz_cms.specs.Message as message
-use Rattle.sz_path.specs.Sets.{AreAt}
-use Rattle.sz_chain.specs.Places.{VerifiesOne}
+use Rattle.sz_chain.specs.Sets.{AreAt}
+use Rattle.sz_chain.specs.Candidates.{VerifiesOne}
 use Rattle.sz_chain.proofs.OneSigner.{all_signers, verifies_step}
 use Rattle.sz_chain.proofs.signers.verified_places.Goals as goal
 

@@ -1,5 +1,5 @@
 use Rattle.std.proofs.Common.{◌≡◌}
-use Rattle.sz_conveyed.specs.declared.conveyed.Conveyed.TheVariants as conveyed
+use Rattle.sz_artifacts.specs.declared.conveyed.Conveyed.TheVariants as conveyed
 use Rattle.sz_evidence.proofs.OneJudgement.{one_information}
 use Rattle.sz_evidence.proofs.laws.evidence_authorises_one.Goals as goal
 

@@ -1,4 +1,4 @@
-use Rattle.sz_conveyed.specs.declared.conveyed.Conveyed.TheVariants as conveyed
+use Rattle.sz_artifacts.specs.declared.conveyed.Conveyed.TheVariants as conveyed
 use Rattle.sz_evidence.proofs.OneJudgement.{unsigned_authenticated}
 use Rattle.sz_evidence.proofs.laws.unsigned_is_not_authorised.Goals as goal
 

@@ -1,5 +1,5 @@
 use Rattle.sz_cms.specs.View.{signed_of}
-use Rattle.sz_voucher.specs.Voucher.{voucher_fault}
+use Rattle.sz_artifacts.specs.Voucher.{voucher_fault}
 use Rattle.sz_evidence.specs.Judgement.{First, voucher_rules}
 use Rattle.sz_evidence.specs.View.{IsReason, IsUnfit, json_refusal, PinsNoCertificate, RefusesVoucher}
 use Rattle.sz_evidence.proofs.Steps.{exit, member_by, reason_by, voucher_at_fault, voucher_ok, voucher_pins_none, voucher_unfit, voucher_unsigned}

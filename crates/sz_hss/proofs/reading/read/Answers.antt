@@ -2,7 +2,7 @@ use Rattle.std.proofs.Common.{ℕ, ◌+◌, ◌≤◌, length, ap, sym, ◌∙�
 use Rattle.std.proofs.lemmas.List.{length-map}
 use Rattle.sz_hss.specs.Key.{HssKey}
 use Rattle.sz_hss.specs.Leaf.{leaves_below}
-use Rattle.sz_hss.specs.Stored.{IsStored}
+use Rattle.sz_hss.specs.Stored.{IsStoredKey}
 use Rattle.sz_hss.specs.StoredFault.{end_place, next_place, part, shape_place, shapes_in, stored_size, u64_at}
 use Rattle.sz_hss.specs.View.{shape_of}
 use Rattle.sz_hss.proofs.Form.{IsStored-parts}
@@ -30,5 +30,5 @@ returns-clause-ok c =
     (numbers.0 ∙ ap (λ (n : ℕ). u64_at bytes (next_place n)) count)
     (numbers.1 ∙ ap (λ (n : ℕ). u64_at bytes (end_place n)) count)
     order.0 (subst (λ (n : ℕ). c.in_ok-next.end ≤ n) leaves order.1) in
-    subst (λ (key : HssKey). IsStored (record { key = key; next = c.in_ok-next.next; end = c.in_ok-next.end }) bytes)
+    subst (λ (key : HssKey). IsStoredKey (record { key = key; next = c.in_ok-next.next; end = c.in_ok-next.end }) bytes)
     (sym c.of-key.ensures) stored

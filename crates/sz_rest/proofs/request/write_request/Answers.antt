@@ -1,6 +1,6 @@
 use Rattle.std.proofs.Common.{List, ℕ, sym, ap, ◌∙◌, subst, option_copied}
 use Rattle.std.proofs.lemmas.Result.{IfOk-weaker}
-use Rattle.sz_json.specs.Json.{IsJson}
+use Rattle.sz_json.specs.Bounded.{IsBoundedJson}
 use Rattle.sz_rest.proofs.Requests.{asks}
 use Rattle.sz_rest.specs.Asked.{AsksFor}
 use Rattle.sz_rest.specs.Message.{message_text}
@@ -18,7 +18,7 @@ returns-clause-written c =
 pub returns-clause-asks : goal.returns-clause-asks
 returns-clause-asks c =
     let nonce = option_copied c.args.nonce in
-    let json = subst (λ (body : List ℕ). IsJson body (request_value nonce)) (sym c.as_slice.ensures) c.in_ok-body.ensures.reads_back in
+    let json = subst (λ (body : List ℕ). IsBoundedJson body (request_value nonce)) (sym c.as_slice.ensures) c.in_ok-body.ensures.reads_back in
     IfOk-weaker c.finish.result _ _
     (λ text h. subst (λ (t : List ℕ). AsksFor c.args.serial.now t)
     (sym (h.whole request_line (request_fields c.args.target.now c.args.serial.now) c.in_ok-lines.ensures.text))

@@ -1,4 +1,4 @@
-use Rattle.std.proofs.Common.{◌≡◌, true, false, not, ◌||◌, Some, None, refl, sym, ap, ◌∙◌}
+use Rattle.std.proofs.Common.{◌≡◌, true, false, not, ◌||◌, Some, None, refl, sym, ap, ◌∙◌, arith}
 use Rattle.std.proofs.lemmas.Bool.{not_from_false, or_left, or_right}
 use Rattle.std.proofs.lemmas.Result.{MatchResult-weaker}
 use Rattle.sz_der.specs.declared.tag.TheConstants.{SEQUENCE}
@@ -7,44 +7,56 @@ use Rattle.sz_x509.specs.Extensions.{is_known}
 use Rattle.sz_x509.specs.Parts.{content_at, spot_of}
 use Rattle.sz_x509.specs.declared.fault.CertKind.TheVariants as kinds
 use Rattle.sz_x509.proofs.Steps.{exit}
-use Rattle.sz_x509.proofs.Walking.{shorter_after}
+use Rattle.sz_x509.proofs.Walking.{has_no_room, has_room, shorter_after}
 use Rattle.sz_x509.proofs.extensions.take_extension.Goals as goal
 use Rattle.sz_x509.proofs.extensions.take_extension.Goals.{else-branch-via-then-branch+else-not-is_known, else-branch-via-else-branch}
 
 pub returns-in_err-extension-clause-fault : goal.returns-in_err-extension-clause-fault
 unfolding extension_fault identifier_at flag_spot value_spot
-returns-in_err-extension-clause-fault c = λ earlier lead.
+returns-in_err-extension-clause-fault c = λ earlier lead count.
     exit _ _ c.in_err-extension.field-0.0 c.from_residual.ensures.1 (rw c.in_err-extension.ensures.fault refl)
+
+pub returns-then-before-ge-MOST_EXTENSIONS-clause-fault : goal.returns-then-before-ge-MOST_EXTENSIONS-clause-fault
+unfolding extension_fault
+returns-then-before-ge-MOST_EXTENSIONS-clause-fault c = λ earlier lead count.
+    let full = has_no_room earlier c.args.before count (omega (arith, c.if-before-ge-MOST_EXTENSIONS.true)) in
+    rw (c.in_ok-extension.ensures.ok, full)
+    (ap (λ (x : Fault). Some x) (sym (c.fault_of.ensures (spot_of c.args.reader.now) c.in_ok-extension.ensures.item)))
 
 pub returns-in_err-identifier-clause-fault : goal.returns-in_err-identifier-clause-fault
 unfolding extension_fault identifier_at flag_spot value_spot
-returns-in_err-identifier-clause-fault c = λ earlier lead.
+returns-in_err-identifier-clause-fault c = λ earlier lead count.
+    let room = has_room earlier c.args.before count (omega (arith, c.if-before-ge-MOST_EXTENSIONS.false)) in
     let inner = c.parts_of-parts.ensures (spot_of c.args.reader.now) c.in_ok-extension.ensures.item in
     exit _ _ c.in_err-identifier.field-0.0 c.from_residual-in_err-identifier.ensures.1 (rw (
       c.in_ok-extension.ensures.ok,
+      room,
       ← inner,
       c.in_err-identifier.ensures.fault,
     ) refl)
 
 pub returns-then-stands_before-clause-fault : goal.returns-then-stands_before-clause-fault
 unfolding extension_fault identifier_at flag_spot value_spot
-returns-then-stands_before-clause-fault c = λ earlier lead.
+returns-then-stands_before-clause-fault c = λ earlier lead count.
+    let room = has_room earlier c.args.before count (omega (arith, c.if-before-ge-MOST_EXTENSIONS.false)) in
     let inner = c.parts_of-parts.ensures (spot_of c.args.reader.now) c.in_ok-extension.ensures.item in
     let twice : stands_among earlier (content_at (spot_of c.parts_of-parts.result)) ≡ true =
     ap (λ identifier. stands_among earlier identifier) (sym c.in_ok-identifier.ensures.item.content) ∙ sym (c.stands_before.ensures earlier lead)
     ∙ c.if-stands_before.true in
-    rw (c.in_ok-extension.ensures.ok, ← inner, c.in_ok-identifier.ensures.ok, twice)
-    (ap (λ (x : Fault). Some x) (sym (c.fault_of.ensures (spot_of c.args.reader.now) c.in_ok-extension.ensures.item)))
+    rw (c.in_ok-extension.ensures.ok, room, ← inner, c.in_ok-identifier.ensures.ok, twice)
+    (ap (λ (x : Fault). Some x) (sym (c.fault_of-then-stands_before.ensures (spot_of c.args.reader.now) c.in_ok-extension.ensures.item)))
 
 pub returns-in_err-take_flag-clause-fault : goal.returns-in_err-take_flag-clause-fault
 unfolding extension_fault identifier_at flag_spot value_spot
-returns-in_err-take_flag-clause-fault c = λ earlier lead.
+returns-in_err-take_flag-clause-fault c = λ earlier lead count.
+    let room = has_room earlier c.args.before count (omega (arith, c.if-before-ge-MOST_EXTENSIONS.false)) in
     let inner = c.parts_of-parts.ensures (spot_of c.args.reader.now) c.in_ok-extension.ensures.item in
     let new : stands_among earlier (content_at (spot_of c.parts_of-parts.result)) ≡ false =
     ap (λ identifier. stands_among earlier identifier) (sym c.in_ok-identifier.ensures.item.content) ∙ sym (c.stands_before.ensures earlier lead)
     ∙ c.if-stands_before.false in
     exit _ _ c.in_err-take_flag.field-0.0 c.from_residual-in_err-take_flag.ensures.1 (rw (
       c.in_ok-extension.ensures.ok,
+      room,
       ← inner,
       c.in_ok-identifier.ensures.ok,
       new,
@@ -54,7 +66,8 @@ returns-in_err-take_flag-clause-fault c = λ earlier lead.
 
 pub returns-then-not-is_known-clause-fault : goal.returns-then-not-is_known-clause-fault
 unfolding extension_fault identifier_at flag_spot value_spot
-returns-then-not-is_known-clause-fault c = λ earlier lead.
+returns-then-not-is_known-clause-fault c = λ earlier lead count.
+    let room = has_room earlier c.args.before count (omega (arith, c.if-before-ge-MOST_EXTENSIONS.false)) in
     let inner = c.parts_of-parts.ensures (spot_of c.args.reader.now) c.in_ok-extension.ensures.item in
     let new : stands_among earlier (content_at (spot_of c.parts_of-parts.result)) ≡ false =
     ap (λ identifier. stands_among earlier identifier) (sym c.in_ok-identifier.ensures.item.content) ∙ sym (c.stands_before.ensures earlier lead)
@@ -63,6 +76,7 @@ returns-then-not-is_known-clause-fault c = λ earlier lead.
     ap is_known (sym c.in_ok-identifier.ensures.item.content) ∙ sym c.is_known.ensures ∙ c.if-not-is_known.true in
     rw (
       c.in_ok-extension.ensures.ok,
+      room,
       ← inner,
       c.in_ok-identifier.ensures.ok,
       new,
@@ -76,7 +90,8 @@ returns-then-not-is_known-clause-fault c = λ earlier lead.
 
 pub returns-in_err-value-clause-fault : goal.returns-in_err-value-clause-fault
 unfolding extension_fault identifier_at flag_spot value_spot
-returns-in_err-value-clause-fault c = λ earlier lead.
+returns-in_err-value-clause-fault c = λ earlier lead count.
+    let room = has_room earlier c.args.before count (omega (arith, c.if-before-ge-MOST_EXTENSIONS.false)) in
     let inner = c.parts_of-parts.ensures (spot_of c.args.reader.now) c.in_ok-extension.ensures.item in
     let new : stands_among earlier (content_at (spot_of c.parts_of-parts.result)) ≡ false =
     ap (λ identifier. stands_among earlier identifier) (sym c.in_ok-identifier.ensures.item.content) ∙ sym (c.stands_before.ensures earlier lead)
@@ -90,6 +105,7 @@ returns-in_err-value-clause-fault c = λ earlier lead.
     ] in
     exit _ _ c.in_err-value.field-0.0 c.from_residual-in_err-value.ensures.1 (rw (
       c.in_ok-extension.ensures.ok,
+      room,
       ← inner,
       c.in_ok-identifier.ensures.ok,
       new,
@@ -102,7 +118,8 @@ returns-in_err-value-clause-fault c = λ earlier lead.
 
 pub returns-in_err-expect_end-clause-fault : goal.returns-in_err-expect_end-clause-fault
 unfolding extension_fault identifier_at flag_spot value_spot
-returns-in_err-expect_end-clause-fault c = λ earlier lead.
+returns-in_err-expect_end-clause-fault c = λ earlier lead count.
+    let room = has_room earlier c.args.before count (omega (arith, c.if-before-ge-MOST_EXTENSIONS.false)) in
     let inner = c.parts_of-parts.ensures (spot_of c.args.reader.now) c.in_ok-extension.ensures.item in
     let new : stands_among earlier (content_at (spot_of c.parts_of-parts.result)) ≡ false =
     ap (λ identifier. stands_among earlier identifier) (sym c.in_ok-identifier.ensures.item.content) ∙ sym (c.stands_before.ensures earlier lead)
@@ -116,6 +133,7 @@ returns-in_err-expect_end-clause-fault c = λ earlier lead.
     ] in
     exit _ _ c.in_err-expect_end.field-0.0 c.from_residual-in_err-expect_end.ensures.1 (rw (
       c.in_ok-extension.ensures.ok,
+      room,
       ← inner,
       c.in_ok-identifier.ensures.ok,
       new,
@@ -130,7 +148,8 @@ returns-in_err-expect_end-clause-fault c = λ earlier lead.
 
 pub returns-clause-ok : goal.returns-clause-ok
 unfolding extension_fault identifier_at flag_spot value_spot
-returns-clause-ok c = λ earlier lead.
+returns-clause-ok c = λ earlier lead count.
+    let room = has_room earlier c.args.before count (omega (arith, c.if-before-ge-MOST_EXTENSIONS.false)) in
     let inner = c.parts_of-parts.ensures (spot_of c.args.reader.now) c.in_ok-extension.ensures.item in
     let new : stands_among earlier (content_at (spot_of c.parts_of-parts.result)) ≡ false =
     ap (λ identifier. stands_among earlier identifier) (sym c.in_ok-identifier.ensures.item.content) ∙ sym (c.stands_before.ensures earlier lead)
@@ -145,6 +164,7 @@ returns-clause-ok c = λ earlier lead.
     MatchResult-weaker c.read_value.result c.read_value.ensures.ok
     (λ x (e : value_fault c.in_ok-identifier.field-0.content.now (spot_of c.in_ok-value.value) ≡ None). rw (
       c.in_ok-extension.ensures.ok,
+      room,
       ← inner,
       c.in_ok-identifier.ensures.ok,
       new,
@@ -162,7 +182,8 @@ returns-clause-ok c = λ earlier lead.
 
 pub returns-clause-fault : goal.returns-clause-fault
 unfolding extension_fault identifier_at flag_spot value_spot
-returns-clause-fault c = λ earlier lead.
+returns-clause-fault c = λ earlier lead count.
+    let room = has_room earlier c.args.before count (omega (arith, c.if-before-ge-MOST_EXTENSIONS.false)) in
     let inner = c.parts_of-parts.ensures (spot_of c.args.reader.now) c.in_ok-extension.ensures.item in
     let new : stands_among earlier (content_at (spot_of c.parts_of-parts.result)) ≡ false =
     ap (λ identifier. stands_among earlier identifier) (sym c.in_ok-identifier.ensures.item.content) ∙ sym (c.stands_before.ensures earlier lead)
@@ -177,6 +198,7 @@ returns-clause-fault c = λ earlier lead.
     MatchResult-weaker c.read_value.result c.read_value.ensures.fault (λ x h. h)
     (λ x e. rw (
       c.in_ok-extension.ensures.ok,
+      room,
       ← inner,
       c.in_ok-identifier.ensures.ok,
       new,
@@ -208,3 +230,7 @@ pub returns-clause-shorter : goal.returns-clause-shorter
 returns-clause-shorter c =
     let less = shorter_after kinds.Der SEQUENCE c.args.reader.now c.take_part.new.reader c.in_ok-extension.ensures.ok c.in_ok-extension.ensures.next in
     MatchResult-weaker c.read_value.result c.read_value.ensures.ok (λ x h. less) (λ x h. h)
+
+pub returns-clause-few : goal.returns-clause-few
+returns-clause-few c =
+    MatchResult-weaker c.read_value.result c.read_value.ensures.ok (λ x h. omega (arith, c.if-before-ge-MOST_EXTENSIONS.false)) (λ x h. h)

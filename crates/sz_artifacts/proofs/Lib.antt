@@ -1,0 +1,13 @@
+pub mod Fitting
+pub mod OneVoucher
+pub mod PlainVoucher
+pub mod Dates
+pub mod VoucherBack
+pub mod Addresses
+pub mod Pairs
+pub mod Faultless
+pub mod OneInformation
+pub mod Texts
+pub mod PlainInformation
+pub mod RedirectBack
+pub mod OnboardingBack

@@ -1,0 +1,11 @@
+pub mod Assertion
+pub mod Voucher
+pub mod Vouching
+pub mod WrittenVoucher
+pub mod Address
+pub mod Hash
+pub mod Redirect
+pub mod Image
+pub mod Onboarding
+pub mod Conveyed
+pub mod WrittenInformation

@@ -1,0 +1,21 @@
+//! Laws of vouchers.
+
+ghost use Rattle.std.specs.Prelude.{◌≡◌, ◌↔◌, List, ℕ, None, Ok};
+ghost use Rattle.serde_json.specs.Data.{Data};
+ghost use Rattle.sz_base.specs.declared.moment.Moment.{Moment};
+ghost use Rattle.sz_artifacts.specs.Vouching.{VouchesFor, judgement};
+ghost use Rattle.sz_artifacts.specs.Voucher.{IsVoucher, voucher_fault};
+ghost use Rattle.sz_artifacts.specs.declared.voucher.Voucher.{Voucher};
+
+/// A voucher is judged without a fault exactly where it fits the device and the moment.
+pub fn judged_vouchers_fit()
+    ensures { (voucher : Voucher) (serial : List ℕ) (when : Moment)
+        → (judgement voucher serial when ≡ Ok tt) ↔ VouchesFor voucher serial when }
+{}
+
+/// A value is read as a voucher exactly where none of its members is at fault, and then as one alone.
+pub fn faultless_values_are_vouchers()
+    ensures exactly { (value : Data) → (voucher_fault value ≡ None) ↔ ((voucher : Voucher) × IsVoucher value voucher) }
+    ensures one_voucher { (value : Data) (voucher other : Voucher) → IsVoucher value voucher → IsVoucher value other
+        → voucher ≡ other }
+{}

@@ -1,9 +1,0 @@
-use Rattle.sz_conveyed.proofs.Faultless.{conveyed_fault_none, read_conveyed}
-use Rattle.sz_conveyed.proofs.OneReading.{one_conveyed}
-use Rattle.sz_conveyed.proofs.laws.faultless_values_are_information.Goals as goal
-
-pub returns-clause-exactly : goal.returns-clause-exactly
-returns-clause-exactly c = λ value. (read_conveyed value, λ found. conveyed_fault_none value found.0 found.1)
-
-pub returns-clause-one_reading : goal.returns-clause-one_reading
-returns-clause-one_reading c = one_conveyed

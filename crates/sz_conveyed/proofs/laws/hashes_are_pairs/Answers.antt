@@ -1,5 +1,0 @@
-use Rattle.sz_conveyed.proofs.Pairs.{hash_of_text-pairs, IsColonHex-hash_of_text}
-use Rattle.sz_conveyed.proofs.laws.hashes_are_pairs.Goals as goal
-
-pub returns : goal.returns
-returns c = λ text bytes. (IsColonHex-hash_of_text text bytes, hash_of_text-pairs text bytes)

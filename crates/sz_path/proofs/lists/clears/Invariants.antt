@@ -1,5 +1,0 @@
-use Rattle.sz_path.proofs.Clears.{SoFar}
-use Rattle.sz_path.proofs.lists.clears.Given as goal
-
-abbrev pub invariant-loop-told : goal.invariant-loop-told
-invariant-loop-told l = SoFar l.lists l.place l.serial l.told-index l.is_told

@@ -1,7 +1,0 @@
-use Rattle.sz_path.specs.Sets.{has}
-use Rattle.sz_path.proofs.SetBits.{or_bits}
-use Rattle.sz_path.proofs.set.PlaceSet.or.Goals as goal
-
-pub returns : goal.returns
-unfolding has
-returns c = or_bits c.args.self.bits c.args.others.bits

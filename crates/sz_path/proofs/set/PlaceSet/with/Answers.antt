@@ -1,7 +1,0 @@
-use Rattle.sz_path.specs.Sets.{has}
-use Rattle.sz_path.proofs.SetBits.{with_bit}
-use Rattle.sz_path.proofs.set.PlaceSet.with.Goals as goal
-
-pub returns : goal.returns
-unfolding has
-returns c = λ other. with_bit c.args.self.bits c.args.place other c.requires

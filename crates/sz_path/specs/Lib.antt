@@ -1,9 +1,0 @@
-pub mod Issuer
-pub mod Cleared
-pub mod Chain
-pub mod Sets
-pub mod Places
-pub mod Links
-pub mod Lists
-pub mod Search
-pub mod Ways

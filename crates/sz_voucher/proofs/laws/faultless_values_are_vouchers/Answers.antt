@@ -1,8 +1,0 @@
-use Rattle.sz_voucher.proofs.OneReading.{one_voucher, read_voucher, voucher_fault_none}
-use Rattle.sz_voucher.proofs.laws.faultless_values_are_vouchers.Goals as goal
-
-pub returns-clause-exactly : goal.returns-clause-exactly
-returns-clause-exactly c = λ value. (read_voucher value, λ found. voucher_fault_none value found.0 found.1)
-
-pub returns-clause-one_voucher : goal.returns-clause-one_voucher
-returns-clause-one_voucher c = one_voucher

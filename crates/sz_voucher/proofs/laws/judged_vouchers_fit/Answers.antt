@@ -1,5 +1,0 @@
-use Rattle.sz_voucher.proofs.Fitting.{fits, fitting}
-use Rattle.sz_voucher.proofs.laws.judged_vouchers_fit.Goals as goal
-
-pub returns : goal.returns
-returns c = λ voucher serial when. (fits voucher serial when, fitting voucher serial when)

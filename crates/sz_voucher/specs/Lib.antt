@@ -1,4 +1,0 @@
-pub mod Assertion
-pub mod Voucher
-pub mod Judgement
-pub mod Written
