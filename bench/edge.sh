@@ -72,6 +72,14 @@ refused "a full output" $status
 refused "a broken pipe" "$(cat status)"
 [ "$(cat message | sha256sum)" = "$(head -c 55 /dev/zero | sha256sum)" ] || { echo "an input was written"; exit 1; }
 
+# ---- descriptors
+status=0
+"$program" check public message signature <&- >&- 2>&- || status=$?
+refused "no descriptor at all" $status
+few=$(ulimit -n 6 && "$program" check public message signature)
+[ "$few" = valid ] || { echo "six descriptors: '$few', where 'valid' is due"; exit 1; }
+echo "six descriptors: valid"
+
 # ---- files of 1 GiB, each in less than 4 MiB of memory
 
 # large NAME LINE WORD..: the program, run with these words, prints this line and ends with 3; sets `spent` (nanoseconds)

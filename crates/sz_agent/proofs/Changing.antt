@@ -10,6 +10,7 @@ use Rattle.sz_state.specs.declared.fault.StateFault.{StateFault}
 use Rattle.sz_state.specs.declared.fault.StateFault.TheVariants as state
 use Rattle.sz_state.specs.declared.held.Held.{Held}
 use Rattle.sz_state.specs.declared.staged.Staged.{Staged}
+use Rattle.sz_state.proofs.Changing.{either-stands}
 use Rattle.sz_agent.specs.Choice.{Becomes, is_changed, is_untouched, IsUnmade, StandsOn}
 use Rattle.sz_agent.specs.Ending.{blames_disk, EndsFor}
 use Rattle.sz_agent.specs.declared.choice.Choice.TheVariants as choice
@@ -98,6 +99,6 @@ blamed_alike T (state.TooLarge size) ended is = absurd is
 pub stands_unchanged : (old new : Seen) (before next : Device) (fault : StateFault) (ended : Outcome)
     → EndsFor fault ended → StandsThrough {T = Held} old new before next (Err fault) → StandsOn old new before next ended
 stands_unchanged old new before next fault ended is through = record {
-  any_moment = through.any_moment;
+  any_moment = either-stands old new before next through.any_moment;
   changed = λ yes. absurd (false≢true (sym (unchanged fault ended is) ∙ yes));
 }

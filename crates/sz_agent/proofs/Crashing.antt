@@ -33,8 +33,8 @@ pub synced-stands : {D : Type 0} (seen : D → Seen) → ((d : D) → IsLawful (
     (other : Device) → OneReading → IsStill (seen old) (seen synced) → IsHeld (seen synced) held
     → StandsForEither (seen old) held.device other → NowStands (seen synced) held.device
 synced-stands seen lawful old synced held other reading still is either =
-    held-now_stands reading (seen synced) held held.device other (lawful synced) is either.one_widths either.one_widths
-    either.other_widths (λ image left. either.each image (still.crash image left))
+    held-now_stands reading (seen synced) held held.device other (lawful synced) is
+    (λ image left. either.each image (still.crash image left))
 
 -- from the first sync to the end of the walk
 pub walked-stands : (synced walked : Seen) (held : Held) → IsLawful synced → NowStands synced held.device

@@ -5,7 +5,7 @@ use Rattle.sz_cell.specs.Cell.{ReadMeans}
 use Rattle.sz_cell.specs.Meaning.{damaged, meaning, Meaning, none, value}
 use Rattle.sz_disk.specs.Disk.{IsLawful, Seen}
 use Rattle.sz_disk.proofs.Moments.{length-read}
-use Rattle.sz_record.specs.Stored.{first_wrong, HasWidths, IsStored}
+use Rattle.sz_record.specs.Stored.{first_wrong, IsStored}
 use Rattle.sz_record.specs.declared.device.Device.{Device}
 use Rattle.sz_state.specs.Held.{IsHeld, ReadHas}
 use Rattle.sz_state.specs.Layout.{capacity_of, cell_place, space_of}
@@ -67,18 +67,17 @@ held-reads old new held P lawful is same has = reads_by old.reads new held P law
 
 -- and that is the device that it read as before, with its sequence
 pub held-before : OneReading → (old new : Seen) (held : Held) (before : Device) (sequence : ℕ) → IsLawful new
-    → IsHeld new held → HasWidths held.device → new.reads ≡ old.reads → ReadsAs old before sequence
+    → IsHeld new held → new.reads ≡ old.reads → ReadsAs old before sequence
     → (held.device ≡ before) × (held.ready.sequence ≡ sequence)
-held-before reading old new held before sequence lawful is wide same reads =
+held-before reading old new held before sequence lawful is same reads =
     record_once reading reads.bytes held.device before held.ready.sequence sequence
-    (held-record new held reads.bytes lawful is (lawful.reads_as_left reads.bytes (same ∙ reads.reads))) reads.record_is wide
-    reads.widths
+    (held-record new held reads.bytes lawful is (lawful.reads_as_left reads.bytes (same ∙ reads.reads))) reads.record_is
 
 -- ---- a disk that reads as a device is never refused for what it is
 
 -- what `payloads_have_one_reading` of sz_record promises: a stored form has no wrong byte
 abbrev pub NoneWrong : Type 0
-NoneWrong = (space : ℕ) (payload : List ℕ) (device : Device) → IsStored space payload device → HasWidths device
+NoneWrong = (space : ℕ) (payload : List ℕ) (device : Device) → IsStored space payload device
     → first_wrong space payload ≡ None
 
 means_value : (old : Seen) (before : Device) (sequence : ℕ) → IsLawful old → (reads : ReadsAs old before sequence)
@@ -110,6 +109,6 @@ never_wrong right old before sequence place byte reads found =
     let payload : is.payload ≡ bad.payload = cc same in
     let none : first_wrong (space_of (length reads.bytes)) bad.payload ≡ None =
     right (space_of (length reads.bytes)) bad.payload before
-    (subst (λ (p : List ℕ). IsStored (space_of (length reads.bytes)) p before) payload is.stored) reads.widths in
+    (subst (λ (p : List ℕ). IsStored (space_of (length reads.bytes)) p before) payload is.stored) in
     let some = bad.bad.first in
     absurd (cc (none, some))

@@ -3,7 +3,7 @@ use Rattle.std.proofs.Common.{◌≡◌, ℕ, List, length, sym, ap, subst, ◌�
 use Rattle.sz_cell.specs.Meaning.{meaning, value}
 use Rattle.sz_disk.specs.Disk.{IsLawful, Seen}
 use Rattle.sz_disk.proofs.Moments.{length-left}
-use Rattle.sz_record.specs.Stored.{HasWidths, IsStored}
+use Rattle.sz_record.specs.Stored.{IsStored}
 use Rattle.sz_record.specs.declared.device.Device.{Device}
 use Rattle.sz_state.specs.Held.{IsHeld}
 use Rattle.sz_state.specs.Layout.{capacity_of, cell_place, space_of}
@@ -15,18 +15,18 @@ use Rattle.sz_agent.specs.Crash.{StandsForOne}
 -- what `payloads_have_one_reading` of sz_record promises: a payload is the stored form of one device
 abbrev pub OneReading : Type 0
 OneReading = (space : ℕ) (payload : List ℕ) (device other : Device) → IsStored space payload device
-    → IsStored space payload other → HasWidths device → HasWidths other → device ≡ other
+    → IsStored space payload other → device ≡ other
 
 -- an image has one record
 pub record_once : OneReading → (image : List ℕ) (device other : Device) (sequence number : ℕ)
-    → HasRecord image device sequence → HasRecord image other number → HasWidths device → HasWidths other → (device ≡ other) × (sequence ≡ number)
-record_once one image device other sequence number a b wide wider =
+    → HasRecord image device sequence → HasRecord image other number → (device ≡ other) × (sequence ≡ number)
+record_once one image device other sequence number a b =
     let same : value a.slot sequence a.payload ≡ value b.slot number b.payload = sym a.means ∙ b.means in
     let payload : a.payload ≡ b.payload = cc same in
     let numbers : sequence ≡ number = cc same in
     let stored : IsStored (space_of (length image)) b.payload device =
     subst (λ (p : List ℕ). IsStored (space_of (length image)) p device) payload a.stored in
-    (one (space_of (length image)) b.payload device other stored b.stored wide wider, numbers)
+    (one (space_of (length image)) b.payload device other stored b.stored, numbers)
 
 -- each image that a crash now may leave has the record of the device that was found
 pub held-record : (disk : Seen) (held : Held) (image : List ℕ) → IsLawful disk → IsHeld disk held → disk.leaves image
@@ -46,18 +46,17 @@ held-record disk held image lawful is left =
 
 -- where an image stands for one of two devices and has the record of a third, it stands for the third
 pub stands_as : OneReading → (image : List ℕ) (device one other : Device) (sequence : ℕ) → HasRecord image device sequence
-    → HasWidths device → HasWidths one → HasWidths other → StandsForOne one other image → Stands image device
-stands_as reading image device one other sequence has wide wide_one wide_other (inl stands) =
+    → StandsForOne one other image → Stands image device
+stands_as reading image device one other sequence has (inl stands) =
     subst (λ (d : Device). Stands image d)
-    (record_once reading image one device stands.sequence sequence stands.record_is has wide_one wide).0 stands
-stands_as reading image device one other sequence has wide wide_one wide_other (inr stands) =
+    (record_once reading image one device stands.sequence sequence stands.record_is has).0 stands
+stands_as reading image device one other sequence has (inr stands) =
     subst (λ (d : Device). Stands image d)
-    (record_once reading image other device stands.sequence sequence stands.record_is has wide_other wide).0 stands
+    (record_once reading image other device stands.sequence sequence stands.record_is has).0 stands
 
 -- every image of a disk on which a device was found stands for it, where each stood for one of two devices
 pub held-now_stands : OneReading → (disk : Seen) (held : Held) (one other : Device) → IsLawful disk → IsHeld disk held
-    → HasWidths held.device → HasWidths one → HasWidths other
     → ((image : List ℕ) → disk.leaves image → StandsForOne one other image) → NowStands disk held.device
-held-now_stands reading disk held one other lawful is wide wide_one wide_other each image left =
-    stands_as reading image held.device one other held.ready.sequence (held-record disk held image lawful is left) wide
-    wide_one wide_other (each image left)
+held-now_stands reading disk held one other lawful is each image left =
+    stands_as reading image held.device one other held.ready.sequence (held-record disk held image lawful is left)
+    (each image left)

@@ -9,7 +9,6 @@ use Rattle.sz_base.specs.declared.moment.Moment.{Moment}
 use Rattle.sz_disk.specs.Disk.{IsLawful, IsQuiet, IsStill, IsSynced, Seen}
 use Rattle.sz_io.specs.Folder.{FileMap}
 use Rattle.sz_io.specs.Net.{Traffic}
-use Rattle.sz_record.specs.Stored.{HasWidths}
 use Rattle.sz_record.specs.declared.device.Device.{Device}
 use Rattle.sz_source.specs.declared.source.Source.{Source}
 use Rattle.sz_state.specs.Fault.{state_failed}
@@ -69,8 +68,8 @@ settled-stands reading old new before other sequence synced reads either image l
     let same : reads.bytes ≡ image =
     same_Some reads.bytes image (sym reads.reads ∙ sym synced.quiet.reads ∙ synced.settled image left) in
     stands_as reading image before before other sequence
-    (subst (λ (b : List ℕ). HasRecord b before sequence) same reads.record_is) reads.widths reads.widths
-    either.other_widths (either.each image (synced.quiet.still.crash image left))
+    (subst (λ (b : List ℕ). HasRecord b before sequence) same reads.record_is)
+    (either.each image (synced.quiet.still.crash image left))
 
 broke : (quest : Quest) (boot : Boot) (began : Traffic) (visits : List Visit) → boot.after ≡ boot.before → visits ≡ []
     → began.standing ≡ None → EndsBroken quest boot began began visits
@@ -129,7 +128,6 @@ refused_ok seen lawful right reading old new sources files a report fault found 
         boot = boot;
         begins = refl;
         safe = inl refl;
-        widths = reads.widths;
         crash = λ other either. stays-ok seen lawful old new boot other either still refl;
       };
       moment = refl;
@@ -148,20 +146,19 @@ refused_ok seen lawful right reading old new sources files a report fault found 
 
 pub committed_ok : {D : Type 0} (seen : D → Seen) → ((d : D) → IsLawful (seen d)) → OneReading → (old new : D)
     (sources : List Source) (files : Option FileMap) (a : Option Traffic) (report : Report) (held : Held)
-    → IsSynced (seen old) (seen new) → IsHeld (seen new) held → HasWidths held.device → held.device.onboarded ≢ None
+    → IsSynced (seen old) (seen new) → IsHeld (seen new) held → held.device.onboarded ≢ None
     → report.outcome ≡ outcome.AlreadyOnboarded held.device → report.visits ≡ [] → (before : Device) (sequence : ℕ)
     → ReadsAs (seen old) before sequence
     → BootOk seen old new sources (outside_of files a a) report before sequence
-committed_ok seen lawful reading old new sources files a report held synced is wide committed ended none before sequence reads =
+committed_ok seen lawful reading old new sources files a report held synced is committed ended none before sequence reads =
     let boot = idle_boot before report.moment in
     let quest = quest_of (looker_at before (seen old).size report.moment) sources in
-    let same = (held-before reading (seen old) (seen new) held before sequence (lawful new) is wide synced.quiet.reads reads).0 in
+    let same = (held-before reading (seen old) (seen new) held before sequence (lawful new) is synced.quiet.reads reads).0 in
     record {
       changes = record {
         boot = boot;
         begins = refl;
         safe = inl refl;
-        widths = reads.widths;
         crash = λ other either. stays-ok seen lawful old new boot other either synced.quiet.still refl;
       };
       moment = refl;

@@ -3,7 +3,6 @@ mod Completing
 mod Counting
 mod Crashing
 pub mod Finding
-mod Fitting
 pub mod Holding
 mod Idling
 mod Living

@@ -4,7 +4,6 @@ use Rattle.std.proofs.Common.{refl, sym, subst, ◌∙◌, inl, inr}
 use Rattle.sz_base.specs.declared.identity.Identity.{Identity}
 use Rattle.sz_disk.specs.Disk.{IsLawful, Seen}
 use Rattle.sz_disk.proofs.Moments.{leaves-now}
-use Rattle.sz_record.specs.Stored.{HasWidths}
 use Rattle.sz_record.specs.declared.device.Device.{Device}
 use Rattle.sz_state.specs.Stands.{Stands}
 use Rattle.sz_state.specs.Step.{factory}
@@ -28,12 +27,11 @@ follow-more first (done ∷ boots) boot follow begins safe =
 
 -- ---- what boots leave
 
--- safe boots from this first device leave that one, whose parts fit their widths
+-- safe boots from this first device leave that one
 pub record IsLeft (first device : Device) : Type 0 where
   pub boots : List Boot
   pub follow : Follow first boots
   pub left : left_by first boots ≡ device
-  pub widths : HasWidths device
 
 -- the disk tells its bytes, and each image stands for one of two devices that boots leave
 pub record IsAlive (first : Device) (disk : Seen) : Type 0 where
@@ -43,13 +41,11 @@ pub record IsAlive (first : Device) (disk : Seen) : Type 0 where
   pub one_left : IsLeft first one
   pub other_left : IsLeft first other
 
-left_after : (first : Device) (boot : Boot) → IsLeft first boot.before → IsSafe boot → HasWidths boot.after
-    → IsLeft first boot.after
-left_after first boot left safe widths = record {
+left_after : (first : Device) (boot : Boot) → IsLeft first boot.before → IsSafe boot → IsLeft first boot.after
+left_after first boot left safe = record {
   boots = left.boots ++ boot ∷ [];
   follow = follow-more first left.boots boot left.follow (sym left.left) safe;
   left = left-more first left.boots boot;
-  widths = widths;
 }
 
 -- ---- as a boot begins
@@ -58,16 +54,16 @@ told_bytes : (reads : Option (List ℕ)) → IsTrue (is_some reads) → (bytes :
 told_bytes None told = absurd (cc told)
 told_bytes (Some bytes) told = (bytes, refl)
 
-reads_by : (disk : Seen) (one other : Device) → HasWidths one → HasWidths other → (bytes : List ℕ)
-    → disk.reads ≡ Some bytes → StandsForOne one other bytes
+reads_by : (disk : Seen) (one other : Device) (bytes : List ℕ) → disk.reads ≡ Some bytes
+    → StandsForOne one other bytes
     → ((sequence : ℕ) × ReadsAs disk one sequence) ⊎ ((sequence : ℕ) × ReadsAs disk other sequence)
-reads_by disk one other wide wider bytes told (inl stands) = inl (
+reads_by disk one other bytes told (inl stands) = inl (
   stands.sequence,
-  record { bytes = bytes; reads = told; record_is = stands.record_is; widths = wide },
+  record { bytes = bytes; reads = told; record_is = stands.record_is },
 )
-reads_by disk one other wide wider bytes told (inr stands) = inr (
+reads_by disk one other bytes told (inr stands) = inr (
   stands.sequence,
-  record { bytes = bytes; reads = told; record_is = stands.record_is; widths = wider },
+  record { bytes = bytes; reads = told; record_is = stands.record_is },
 )
 
 -- a disk that tells its bytes and stands for one of two devices reads as one of them
@@ -75,7 +71,7 @@ reads_one : (disk : Seen) (one other : Device) → IsLawful disk → StandsForEi
     → ((sequence : ℕ) × ReadsAs disk one sequence) ⊎ ((sequence : ℕ) × ReadsAs disk other sequence)
 reads_one disk one other lawful either =
     let told = told_bytes disk.reads either.tells in
-    reads_by disk one other either.one_widths either.other_widths told.0 told.1
+    reads_by disk one other told.0 told.1
     (either.each told.0 (lawful.reads_as_left told.0 told.1))
 
 swapped_one : (one other : Device) (image : List ℕ) → StandsForOne one other image → StandsForOne other one image
@@ -86,8 +82,6 @@ swapped : (disk : Seen) (one other : Device) → StandsForEither disk one other 
 swapped disk one other either = record {
   tells = either.tells;
   each = λ image left. swapped_one one other image (either.each image left);
-  one_widths = either.other_widths;
-  other_widths = either.one_widths;
 }
 
 -- ---- what a boot leaves of the disk, cut off or not
@@ -124,8 +118,6 @@ module _ {D : Type 0} (seen : D → Seen) (lawful : (d : D) → IsLawful (seen d
     either = record {
       tells = tells;
       each = leaves-now (seen run.old) (seen run.new) (StandsForOne boot.before other) (lawful run.new) stays.still;
-      one_widths = left_before.widths;
-      other_widths = left_other.widths;
     };
     one_left = left_before;
     other_left = left_other;
@@ -137,8 +129,6 @@ module _ {D : Type 0} (seen : D → Seen) (lawful : (d : D) → IsLawful (seen d
       tells = tells;
       each = leaves-now (seen lasts.synced) (seen run.new) (StandsForOne boot.before boot.after) (lawful run.new)
           lasts.from_sync;
-      one_widths = left_before.widths;
-      other_widths = left_boot.widths;
     };
     one_left = left_before;
     other_left = left_boot;
@@ -157,8 +147,6 @@ module _ {D : Type 0} (seen : D → Seen) (lawful : (d : D) → IsLawful (seen d
           each = λ image left.
               let same : up.image ≡ image = cc (sym up.reads ∙ up.settled image left) in
               inl (subst (λ (i : List ℕ). Stands i found.0) same found.2);
-          one_widths = found.1.widths;
-          other_widths = found.1.widths;
         };
         one_left = found.1;
         other_left = found.1;
@@ -181,7 +169,7 @@ module _ {D : Type 0} (seen : D → Seen) (lawful : (d : D) → IsLawful (seen d
   booted run one other either left left_other changes next tells goes =
       let before : IsLeft first changes.boot.before = subst (λ (d : Device). IsLeft first d) (sym changes.begins) left in
       alive_next seen lawful first run changes.boot other before left_other
-      (left_after first changes.boot before changes.safe changes.widths) (changes.crash other either) next tells goes
+      (left_after first changes.boot before changes.safe) (changes.crash other either) next tells goes
 
   boot_on : (run : Run D) (alive : IsAlive first (seen run.old)) → IsBoot seen run
       → ((sequence : ℕ) × ReadsAs (seen run.old) alive.one sequence)
@@ -220,8 +208,7 @@ pub comes_of_boots : {D : Type 0} (seen : D → Seen) → ((d : D) → IsLawful 
     → Lives seen start runs last → (seen last).leaves image → ComesOfBoots identity image
 comes_of_boots seen lawful identity made each once start last runs image either lives left =
     let first = factory identity in
-    let unbooted : IsLeft first first =
-    record { boots = []; follow = tt; left = refl; widths = either.one_widths } in
+    let unbooted : IsLeft first first = record { boots = []; follow = tt; left = refl } in
     let begun : IsAlive first (seen start) = record {
       one = first;
       other = first;

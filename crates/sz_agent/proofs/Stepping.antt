@@ -1,16 +1,14 @@
 -- A boot that walked over its sources: the step that its choice becomes, or none.
-use Rattle.std.specs.Prelude.{◌≡◌, ◌⊎◌, ℕ, Bool, true, false, List, length, Option, Some, None, IfSome}
+use Rattle.std.specs.Prelude.{◌≡◌, ◌⊎◌, ℕ, Bool, true, false, List, Option, Some, None}
 use Rattle.std.proofs.Common.{cond, refl, sym, ap, subst, ◌∙◌, inl, inr}
 use Rattle.std.proofs.lemmas.Bool.{false≢true}
 use Rattle.sz_spec.specs.Cause.{HasCause}
 use Rattle.sz_base.specs.declared.evidence.Evidence.{Evidence}
 use Rattle.sz_base.specs.declared.moment.Moment.{Moment}
-use Rattle.sz_artifacts.specs.declared.conveyed.onboarding.BootImage.{BootImage}
 use Rattle.sz_disk.specs.Disk.{IsLawful, IsSynced, LeavesOnly, Seen}
 use Rattle.sz_disk.proofs.Moments.{leaves-now, leaves-weaker, quiet-none, still-leaves}
 use Rattle.sz_io.specs.Folder.{FileMap}
 use Rattle.sz_io.specs.Net.{Traffic}
-use Rattle.sz_record.specs.Stored.{HasMomentWidths, HasWidths}
 use Rattle.sz_record.specs.declared.device.Device.{Device}
 use Rattle.sz_source.specs.declared.source.Source.{Source}
 use Rattle.sz_state.specs.Held.{IsHeld}
@@ -25,7 +23,7 @@ use Rattle.sz_walk.specs.Walk.{WhereBothTell}
 use Rattle.sz_walk.specs.declared.visit.Visit.{Visit}
 use Rattle.sz_offer.specs.Trial.{looker_of, WritesSpare}
 use Rattle.sz_agent.specs.Boot.{BootOk, ends_early, EndsTaking, FoundAs, Outside, outside_of, ReadsDevice, TellsStep, WalkEnds}
-use Rattle.sz_agent.specs.Choice.{Becomes, blames_disk as blames_choice, CanChoose, CanCommit, CanUpgrade, change_blames_disk, EndsIdle, EndsWith, HasChoiceWidths, is_changed, is_untouched, made_by, StandsOn}
+use Rattle.sz_agent.specs.Choice.{Becomes, blames_disk as blames_choice, CanChoose, CanCommit, CanUpgrade, change_blames_disk, EndsIdle, EndsWith, is_changed, is_untouched, made_by, StandsOn}
 use Rattle.sz_agent.specs.Crash.{ReadsAs, StandsForEither, StandsForOne}
 use Rattle.sz_agent.specs.Ending.{blames_disk}
 use Rattle.sz_agent.specs.Quest.{Quest, quest_of, Takes}
@@ -38,7 +36,6 @@ use Rattle.sz_agent.specs.declared.report.Report.{Report}
 use Rattle.sz_agent.proofs.Idling.{no_evidence}
 use Rattle.sz_agent.proofs.Crashing.{one-changed, one-untouched, outlasts-ok, synced-stands, walked-stands}
 use Rattle.sz_agent.proofs.Finding.{held-before}
-use Rattle.sz_agent.proofs.Fitting.{installed-widths, onboarded-widths}
 use Rattle.sz_agent.proofs.Holding.{OneReading}
 use Rattle.sz_agent.proofs.Turning.{none_whole, taken_whole, told_weaker}
 
@@ -104,28 +101,6 @@ safe_of : (device : Device) (when : Moment) (chosen : Choice) (untouched : Bool)
     ⊎ Step device when (evidence_of chosen) (after_of device when chosen untouched)
 safe_of device when chosen true step = inl refl
 safe_of device when chosen false step = step
-
-hash_32 : (boot : BootImage) (hash : List ℕ) → boot.hash ≡ Some hash → IfSome boot.hash (λ h. length h ≡ 32) → length hash ≡ 32
-hash_32 boot hash named wide = subst (λ (h : Option (List ℕ)). IfSome h (λ d. length d ≡ 32)) named wide
-
-made_widths : (disk : Seen) (device : Device) (when : Moment) (chosen : Choice) → HasWidths device → HasMomentWidths when
-    → HasChoiceWidths chosen → CanChoose disk device when chosen → HasWidths (made_by device when chosen)
-made_widths disk device when (choice.Commits offer) wide moment widths can =
-    onboarded-widths device offer.onboarding when offer.evidence wide moment
-made_widths disk device when (choice.Installs staged offer) wide moment widths can =
-    let names = can.can.names in
-    let boot : IfSome names.boot.hash (λ h. length h ≡ 32) =
-    subst (λ (i : Option BootImage). IfSome i (λ b. IfSome b.hash (λ h. length h ≡ 32))) names.named widths.1 in
-    installed-widths device staged offer.onboarding when offer.evidence names wide moment widths.0
-    (hash_32 names.boot names.hash names.hashed boot)
-made_widths disk device when choice.Nothing wide moment widths can = wide
-made_widths disk device when choice.DiskFault wide moment widths can = wide
-made_widths disk device when choice.OutOfMemory wide moment widths can = wide
-
-after_widths : (device : Device) (when : Moment) (chosen : Choice) (untouched : Bool) → HasWidths device
-    → HasWidths (made_by device when chosen) → HasWidths (after_of device when chosen untouched)
-after_widths device when chosen true wide made = wide
-after_widths device when chosen false wide made = made
 
 tells : (disk : Seen) (device : Device) (when : Moment) (chosen : Choice) (sequence : ℕ) (ended : Outcome)
     → device.onboarded ≡ None → CanChoose disk device when chosen
@@ -260,8 +235,7 @@ one_after seen walked new held when chosen ended (inr untouched) same stands now
 pub taken_ok : {D : Type 0} (seen : D → Seen) → ((d : D) → IsLawful (seen d)) → OneReading → (old synced walked new : D)
     (held : Held) (when : Moment) (sources : List Source) (files : Option FileMap) (a b : Option Traffic) (chosen : Choice)
     (visits : List Visit) (ended : Outcome) → IsSynced (seen old) (seen synced) → IsHeld (seen synced) held
-    → held.device.onboarded ≡ None → HasWidths held.device → HasMomentWidths when → HasChoiceWidths chosen
-    → WritesSpare (seen synced) (seen walked) held → CanChoose (seen walked) held.device when chosen
+    → held.device.onboarded ≡ None → WritesSpare (seen synced) (seen walked) held → CanChoose (seen walked) held.device when chosen
     → WhereBothTell files a b (λ told began now. EndsIdle (quest_of (looker_of (seen synced) held when) sources told) chosen
     visits began now)
     → Becomes (made_by held.device when chosen) held.ready.sequence chosen ended
@@ -270,17 +244,15 @@ pub taken_ok : {D : Type 0} (seen : D → Seen) → ((d : D) → IsLawful (seen 
     → (is_untouched ended ≡ true → new ≡ walked) → (before : Device) (sequence : ℕ) → ReadsAs (seen old) before sequence
     → BootOk seen old new sources (outside_of files a b) (record { outcome = ended; visits = visits; moment = when }) before
     sequence
-taken_ok {D} seen lawful reading old synced walked new held when sources files a b chosen visits ended sync is none wide
-    moment widths spare can ends becomes stands same before sequence reads =
-    let found = held-before reading (seen old) (seen synced) held before sequence (lawful synced) is wide sync.quiet.reads reads in
+taken_ok {D} seen lawful reading old synced walked new held when sources files a b chosen visits ended sync is none
+    spare can ends becomes stands same before sequence reads =
+    let found = held-before reading (seen old) (seen synced) held before sequence (lawful synced) is sync.quiet.reads reads in
     subst (λ (n : ℕ). BootOk seen old new sources outside report before n) found.1
     (subst (λ (d : Device). BootOk seen old new sources outside report d held.ready.sequence) found.0 (record {
       changes = record {
         boot = boot;
         begins = refl;
         safe = safe_of held.device when chosen (is_untouched ended) (step_of (seen walked) held.device when chosen none can);
-        widths = after_widths held.device when chosen (is_untouched ended) wide
-            (made_widths (seen walked) held.device when chosen wide moment widths can);
         crash = λ other either.
             outlasts-ok seen lawful old synced walked new held boot other ended reading refl sync.quiet.still is spare
             change either;

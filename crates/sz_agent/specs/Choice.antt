@@ -1,8 +1,7 @@
 -- What the inner calls of a boot promise: the trial of an offer, one turn of the walk, the whole walk, and what a
 -- choice becomes on the disk.
-use Rattle.std.specs.Prelude.{◌≡◌, ◌≢◌, ℕ, ◌+◌, ◌*◌, ◌^◌, ◌≤◌, ◌<◌, Bool, true, false, List, length, Option, Some, None, IfSome, Result, Ok, Err}
+use Rattle.std.specs.Prelude.{◌≡◌, ◌≢◌, ℕ, ◌+◌, ◌*◌, ◌^◌, ◌≤◌, Bool, true, false, List, length, Option, Some, None, Result, Ok, Err}
 use Rattle.sz_base.specs.declared.moment.Moment.{Moment}
-use Rattle.sz_artifacts.specs.declared.conveyed.onboarding.Onboarding.{Onboarding}
 use Rattle.sz_disk.specs.Disk.{Seen, LeavesOnly}
 use Rattle.sz_evidence.specs.Authorised.{Authorised}
 use Rattle.sz_evidence.specs.declared.reason.Reason.{Reason}
@@ -62,15 +61,6 @@ abbrev pub CanChoose : Seen → Device → Moment → Choice → Type 0
 CanChoose disk device when (choice.Commits offer) = CanCommit disk device when offer
 CanChoose disk device when (choice.Installs staged offer) = CanUpgrade disk device when staged offer
 CanChoose disk device when _ = Unit {0}
-
--- a hash of a boot image that the information names has 32 bytes
-abbrev pub HasHashWidth : Onboarding → Type 0
-HasHashWidth onboarding = IfSome onboarding.image (λ boot. IfSome boot.hash (λ hash. length hash ≡ 32))
-
--- the image that is chosen fits its types
-abbrev pub HasChoiceWidths : Choice → Type 0
-HasChoiceWidths (choice.Installs staged offer) = (staged.size < 2 ^ 64) × HasHashWidth offer.onboarding
-HasChoiceWidths _ = Unit {0}
 
 abbrev pub blames_disk : Choice → Bool
 blames_disk choice.DiskFault = true

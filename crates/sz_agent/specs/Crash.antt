@@ -1,7 +1,6 @@
 -- What a crash leaves of a device's disk in a boot, and what a disk reads as.
 use Rattle.std.specs.Prelude.{◌≡◌, ◌⊎◌, ℕ, IsTrue, List, Some, is_some}
 use Rattle.sz_disk.specs.Disk.{Seen, LeavesOnly}
-use Rattle.sz_record.specs.Stored.{HasWidths}
 use Rattle.sz_record.specs.declared.device.Device.{Device}
 use Rattle.sz_state.specs.Stands.{HasRecord, Stands}
 use Rattle.sz_step.specs.Boots.{Boot, IsSafe}
@@ -13,7 +12,6 @@ pub record ReadsAs (disk : Seen) (device : Device) (sequence : ℕ) : Type 0 whe
   pub bytes : List ℕ
   pub reads : disk.reads ≡ Some bytes
   pub record_is : HasRecord bytes device sequence
-  pub widths : HasWidths device
 
 -- the image stands for one of these two devices
 abbrev pub StandsForOne : Device → Device → List ℕ → Type 0
@@ -23,8 +21,6 @@ StandsForOne one other image = Stands image one ⊎ Stands image other
 pub record StandsForEither (disk : Seen) (one other : Device) : Type 0 where
   pub tells : IsTrue (is_some disk.reads)
   pub each : (image : List ℕ) → disk.leaves image → StandsForOne one other image
-  pub one_widths : HasWidths one
-  pub other_widths : HasWidths other
 
 -- ---- in a boot
 
@@ -51,5 +47,4 @@ pub record Changes {D : Type 0} (seen : D → Seen) (old new : D) (before : Devi
   pub boot : Boot
   pub begins : boot.before ≡ before
   pub safe : IsSafe boot
-  pub widths : HasWidths boot.after
   pub crash : (other : Device) → StandsForEither (seen old) before other → CrashOk seen old new boot other

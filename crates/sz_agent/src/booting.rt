@@ -15,13 +15,12 @@ use crate::drawing::draw;
 use crate::ending::outcome_of;
 use crate::searching::search;
 use crate::taking::take;
-use crate::widths::choice_widths;
 use crate::{Outcome, Report};
 use std::alloc::Global;
 use sz_base::{Moment, Seconds};
 use sz_disk::Disk;
 use sz_io::{Entropy, Folder, Net};
-use sz_record::{device_widths, moment_widths, payloads_have_one_reading};
+use sz_record::payloads_have_one_reading;
 use sz_source::Sources;
 use sz_state::{Held, attach};
 use sz_walk::Visits;
@@ -60,15 +59,12 @@ pub fn boot<D: Disk, F: Folder, N: Net, E: Entropy>(
         Ok(held) => held,
         Err(fault) => return unasked(alloc, outcome_of(fault), when),
     };
-    device_widths(&held.device);
     if held.device.onboarded.is_some() {
         let Held { device, ready: _ } = held;
         return unasked(alloc, Outcome::AlreadyOnboarded(device), when);
     }
     let moment = draw(entropy, when);
-    moment_widths(moment);
     let Searched { choice, visits } = search(alloc, &held, disk, folder, net, sources, moment);
-    choice_widths(&choice);
     Report {
         outcome: take(alloc, held, disk, choice, moment),
         visits,

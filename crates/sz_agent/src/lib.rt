@@ -15,7 +15,6 @@ mod report;
 mod searching;
 mod taking;
 mod weighing;
-mod widths;
 
 pub use booting::boot;
 pub use laws::{a_boot_is_complete, a_boot_is_safe, whatever_a_disk_stands_for_is_lawful};

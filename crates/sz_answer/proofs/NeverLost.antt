@@ -81,12 +81,12 @@ vouchers_none identity when ov = (
     (
       λ is. let same = is.1 in cc,
       (
-        λ is. let same = is.gives in cc,
+        λ is. let same = is.refuses.2 in cc,
         (
           λ is. let same = is.at_fault.2 in cc,
           (
-            λ is. voucher_not is.fault is.gives,
-            (λ is. let same = is.gives in cc, tt),
+            λ is. voucher_not is.unfit.0 is.unfit.2,
+            (λ is. let same = is.pins_none.1 in cc, tt),
           ),
         ),
       ),
@@ -100,7 +100,7 @@ owners_none oc = (λ is. unreadable_not artifact.Owner is.0 is.2, (λ is. let sa
 information_none : (identity : Identity) (when : Moment) (evidence : Evidence) (signed : Signed)
     → NoneLost (information_rules identity when evidence signed)
 information_none identity when evidence signed =
-    (λ is. let same = is.gives in cc, (λ is. let same = is.at_fault.2 in cc, tt))
+    (λ is. let same = is.refuses.2 in cc, (λ is. let same = is.at_fault.2 in cc, tt))
 
 all_none : (identity : Identity) (when : Moment) (evidence : Evidence) (info : Info)
     → NoneLost (rules_of identity when evidence info)

@@ -1,26 +1,21 @@
 -- The text of a date reads back as its second.
-use Rattle.std.proofs.Common.{◌≡◌, ℕ, nat_lt, ◌<◌, ◌≤◌, false, List, ◌++◌, Some, None, append_assoc, refl, arith, ℤ, pos, negsuc, ◌*ℤ◌}
+use Rattle.std.proofs.Common.{◌≡◌, ℕ, nat_lt, ◌<◌, ◌≤◌, true, false, List, [], ◌∷◌, ◌++◌, Some, None, Ok, append_assoc, refl, arith, ℤ, pos, negsuc, ◌-ℤ◌}
 use Rattle.std.proofs.lemmas.Bool.Decides.{nat_tests}
-use Rattle.std.specs.Int.{int_div_euclid}
 use Rattle.jiff_core.proofs.SignedLemmas.{signed_arith}
-use Rattle.jiff_core.specs.DateTime.{civil_nanos}
 use Rattle.jiff_core.specs.declared.civil.date.Date.{Date}
 use Rattle.jiff_core.specs.declared.civil.datetime.DateTime.{DateTime}
 use Rattle.jiff_core.specs.declared.civil.time.Time.{Time}
-use Rattle.jiff_core.specs.declared.timestamp.Timestamp.{Timestamp}
 use Rattle.jiff_core.specs.Calendar.{days_in_month}
-use Rattle.jiff_fmt.proofs.RoundTrip.{parse_timestamp-text}
+use Rattle.jiff_fmt.proofs.RoundTrip.{annotations-empty, datetime-text, offset-zulu, Stops, time_spec-text}
+use Rattle.jiff_fmt.specs.Temporal.{date_parts, parse_pieces, temporal_datetime, time_parts, zulu}
 use Rattle.jiff_fmt.specs.Text as jiff
 use Rattle.sz_base.specs.declared.moment.Seconds.{Seconds}
-use Rattle.sz_calendar.proofs.Days.{days_in_month-is, epoch_day-is}
-use Rattle.sz_calendar.specs.CivilTime.{CivilTime, IsDated, IsReal}
+use Rattle.sz_calendar.proofs.Days.{days_in_month-is}
+use Rattle.sz_calendar.specs.CivilTime.{CivilTime, IsReal, unix_seconds}
 use Rattle.sz_calendar.specs.Gregorian.{IsDate}
-use Rattle.sz_json.specs.Form.{IsInstant, seconds_of}
+use Rattle.sz_json.proofs.Instants.{is_dated-where}
+use Rattle.sz_json.specs.Form.{is_dated, IsInstant, seconds_of}
 use Rattle.sz_artifacts.specs.WrittenVoucher.{civil_text, IsDateText, year_text}
-
--- an instant of `jiff` has a date
-pub dated_instant : (seconds : Seconds) → IsInstant seconds → IsDated seconds.0
-dated_instant seconds h = record { from_first = omega (arith, signed_arith, h.0); to_last = omega (arith, signed_arith, h.1) }
 
 -- ---- the same date, in the types of `jiff`
 
@@ -62,14 +57,21 @@ year_is (negsuc n) = refl
 text_is : (time : CivilTime) (real : IsReal time) → civil_text time ≡ jiff.datetime_text false 84 None (jiff_time time real) ++ jiff.zulu_text false
 text_is time real = rw (year_is time.year) (simp append_assoc refl)
 
+-- the text reads as its parts
+read_parts : (time : CivilTime) (real : IsReal time) → parse_pieces (jiff.datetime_text false 84 None (jiff_time time real) ++ jiff.zulu_text false)
+    ≡ Ok (record { date = date_parts (jiff_date time real); time = Some (time_parts (jiff_clock time real)); offset = Some zulu; zone = None })
+unfolding temporal_datetime
+read_parts time real =
+    let stop : Stops (90 ∷ []) = refl in
+    let read = datetime-text (jiff_time time real) (90 ∷ []) stop in
+    let clock = time_spec-text (jiff_clock time real) (90 ∷ []) stop in
+    rw (read, clock, offset-zulu, annotations-empty)
+
 -- the text of a second reads as it
 pub seconds_of-text : (seconds : Seconds) (text : List ℕ) → IsInstant seconds → IsDateText seconds text → seconds_of text ≡ Some seconds
-unfolding seconds_of civil_nanos
+unfolding seconds_of
 seconds_of-text seconds text instant h =
     let real = h.1.real in
-    let at : Timestamp = record { nanosecond = seconds.0 *ℤ pos 1000000000; in_range = instant } in
-    let day = epoch_day-is (jiff_date h.0 real) in
-    let nanoseconds : civil_nanos (jiff_time h.0 real) ≡ at.nanosecond = omega (arith, signed_arith, day, h.1.at) in
-    let read = parse_timestamp-text (jiff_time h.0 real) at nanoseconds in
-    let floor : int_div_euclid (seconds.0 *ℤ pos 1000000000) (pos 1000000000) ≡ seconds.0 = omega (arith, signed_arith) in
-    rw (h.2, text_is h.0 real, read, floor)
+    let second : unix_seconds h.0 -ℤ pos 0 ≡ seconds.0 = omega (arith, signed_arith, h.1.at) in
+    let dated : is_dated seconds.0 ≡ true = is_dated-where seconds.0 instant in
+    rw (h.2, text_is h.0 real, read_parts h.0 real, second, dated)

@@ -1,12 +1,12 @@
 -- The table of the judgement and what it is to fit.
-use Rattle.std.proofs.Common.{◌≡◌, ℕ, ◌≤ℤ◌, Bool, true, false, not, List, [], ◌∷◌, Option, Some, None, IfSome, Ok, refl, sym, ap, arith}
+use Rattle.std.proofs.Common.{◌≡◌, ℕ, ◌≤ℤ◌, Bool, true, false, not, List, [], ◌∷◌, Option, Some, None, IfSome, Ok, Err, ◌↔◌, refl, sym, ap, subst, arith}
 use Rattle.std.proofs.lemmas.Bool.{true≢false}
 use Rattle.std.proofs.lemmas.Int.{ints}
 use Rattle.std.proofs.lemmas.Slice.Eq.{bytes_eq-Decides}
 use Rattle.std.specs.Str.{bytes_eq}
 use Rattle.sz_base.specs.declared.moment.Moment.{Moment}
 use Rattle.sz_base.specs.declared.moment.Seconds.{Seconds}
-use Rattle.sz_artifacts.specs.Vouching.{first_that_applies, VouchesFor, is_other_nonce, is_past, judgement}
+use Rattle.sz_artifacts.specs.Vouching.{first_that_applies, VouchesFor, is_other_nonce, is_past, judgement, without_nonce}
 use Rattle.sz_artifacts.specs.declared.voucher.judgement.VoucherFault.{VoucherFault}
 use Rattle.sz_artifacts.specs.declared.voucher.judgement.VoucherFault.TheVariants.{WrongSerial, Nonce, Expired}
 use Rattle.sz_artifacts.specs.declared.voucher.Voucher.{Voucher}
@@ -60,3 +60,32 @@ fits voucher serial when h =
 pub fitting : (voucher : Voucher) (serial : List ℕ) (when : Moment) → VouchesFor voucher serial when → judgement voucher serial when ≡ Ok tt
 fitting voucher serial when h =
     rw (is_same voucher.serial serial h.serial_number, fitting_nonce voucher.nonce when.nonce h.nonce, fitting_end voucher.expires_on when.time h.end)
+
+-- ---- a voucher with a nonce
+
+pub fits_with_nonce : (voucher : Voucher) (serial : List ℕ) (when : Moment) (nonce : List ℕ) → voucher.nonce ≡ Some nonce
+    → VouchesFor voucher serial when ↔ ((when.nonce ≡ Some nonce) × VouchesFor (without_nonce voucher) serial when)
+fits_with_nonce voucher serial when nonce e = (
+  λ h. (
+    subst (λ (wanted : Option (List ℕ)). IfSome wanted (λ one. when.nonce ≡ Some one)) e h.nonce,
+    record { serial_number = h.serial_number; nonce = tt; end = h.end },
+  ),
+  λ (drawn, h). record {
+    serial_number = h.serial_number;
+    nonce = subst (λ (wanted : Option (List ℕ)). IfSome wanted (λ one. when.nonce ≡ Some one)) (sym e) drawn;
+    end = h.end;
+  },
+)
+
+other_nonce : (wanted : List ℕ) (drawn : Option (List ℕ)) → (drawn ≡ Some wanted → ⊥) → is_other_nonce (Some wanted) drawn ≡ true
+other_nonce wanted None other = refl
+other_nonce wanted (Some drawn) other = go (bytes_eq wanted drawn) refl
+  where
+    go : (same : Bool) → bytes_eq wanted drawn ≡ same → not (bytes_eq wanted drawn) ≡ true
+    go true e = absurd (other (ap Some (sym ((bytes_eq-Decides wanted drawn).0 e))))
+    go false e = ap not e
+
+pub other_nonce_refused : (voucher : Voucher) (serial : List ℕ) (when : Moment) (nonce : List ℕ) → voucher.nonce ≡ Some nonce
+    → ¬ (when.nonce ≡ Some nonce) → voucher.serial ≡ serial → judgement voucher serial when ≡ Err Nonce
+other_nonce_refused voucher serial when nonce e other same =
+    rw (is_same voucher.serial serial same, e, other_nonce nonce when.nonce other)

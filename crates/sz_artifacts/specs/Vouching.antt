@@ -14,6 +14,10 @@ pub record VouchesFor (voucher : Voucher) (serial : List ℕ) (when : Moment) : 
   pub nonce : IfSome voucher.nonce (λ nonce. when.nonce ≡ Some nonce)
   pub end : IfSome voucher.expires_on (λ end. when.time.0 ≤ℤ end.0)
 
+-- the same voucher without its nonce
+abbrev pub without_nonce : Voucher → Voucher
+without_nonce voucher = record voucher { nonce = None }
+
 -- ---- the first fault, as a table
 
 abbrev pub is_other_nonce : Option (List ℕ) → Option (List ℕ) → Bool

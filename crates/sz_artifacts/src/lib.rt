@@ -14,5 +14,5 @@ pub use conveyed::{
 };
 pub use voucher::{
     Assertion, LONGEST_NONCE, SHORTEST_NONCE, Voucher, VoucherFault, faultless_values_are_vouchers,
-    judge, judged_vouchers_fit, write_voucher,
+    judge, judged_vouchers_fit, nonces_have_their_moment, write_voucher,
 };

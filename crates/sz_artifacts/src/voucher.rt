@@ -8,7 +8,7 @@ mod reading;
 mod writing;
 
 pub use judgement::{VoucherFault, judge};
-pub use laws::{faultless_values_are_vouchers, judged_vouchers_fit};
+pub use laws::{faultless_values_are_vouchers, judged_vouchers_fit, nonces_have_their_moment};
 pub use writing::write_voucher;
 
 /// The fewest bytes of a nonce (RFC 8366 section 5.3).

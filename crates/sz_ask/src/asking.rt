@@ -21,6 +21,9 @@ use sz_rest::{read_reply, write_request};
 /// How many bytes the body of a reply may have.
 pub const MOST_REPLY_BYTES: u64 = 6_291_456;
 
+// How many bytes of a reply are taken: its head, which may have 65,536, and its body.
+const MOST_TAKEN: u64 = 65_536 + MOST_REPLY_BYTES;
+
 // How many bytes of the reply are asked for at a time.
 const PIECE: usize = 65536;
 
@@ -69,7 +72,7 @@ fn exchange<N: Net>(
         (option_map after_close (N.traffic net.new)) }
     ensures cause { HasCause (N.faults net.old) (N.faults net.new) (blames_net result) }
 {
-    match sz_exchange::open(net, target, request) {
+    match sz_exchange::open(net, target, MOST_TAKEN, request) {
         Ok(()) => receive(net, incoming, piece),
         Err(PutFault::Failed) => Err(ServerFault::Lost),
         Err(PutFault::OutOfMemory) => Err(ServerFault::OutOfMemory),

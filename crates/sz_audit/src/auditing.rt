@@ -5,7 +5,7 @@ ghost use Rattle.sz_spec.specs.Cause.{HasCause};
 ghost use Rattle.sz_audit.specs.Audit.{Audits, FindsCommitment, FindsImage, FindsWhere};
 ghost use Rattle.sz_base.specs.Identity.{IsWhole};
 ghost use Rattle.sz_disk.specs.Disk.{IsQuiet, IsStill};
-ghost use Rattle.sz_record.specs.Stored.{HasWidths, IsWithin};
+ghost use Rattle.sz_record.specs.Stored.{IsWithin};
 ghost use Rattle.sz_state.specs.Fault.{state_failed};
 ghost use Rattle.sz_state.specs.Held.{IsHeld, IsReadFault};
 ghost use Rattle.sz_state.specs.Layout.{HasLayout, space_of};
@@ -17,7 +17,7 @@ use crate::image::audit_image;
 use crate::{Audit, Found};
 use std::alloc::Global;
 use sz_disk::Disk;
-use sz_record::{Device, device_widths};
+use sz_record::Device;
 use sz_state::{StateFault, attach};
 
 /// Audits the device of a disk. It is found as `attach` finds it, with the same refusals. Of its image and of what it
@@ -26,14 +26,13 @@ use sz_state::{StateFault, attach};
 pub fn audit<D: Disk>(alloc: Global, disk: &mut D) -> Result<Audit, StateFault>
     requires { HasLayout (D.seen disk.old).size }
     ensures found { IfOk result (λ audit. (held : SomeHeld) × IsHeld (D.seen disk.new) held
-        × HasWidths held.device × Audits (D.seen disk.new).reads held.device audit) }
+        × Audits (D.seen disk.new).reads held.device audit) }
     ensures refused { IfErr result (λ fault. FoundBy (D.seen disk.old) (D.seen disk.new) (Err fault)) }
     ensures reads { state_failed result ≡ false → (D.seen disk.new).reads ≡ (D.seen disk.old).reads }
     ensures still { IsStill (D.seen disk.old) (D.seen disk.new) }
     ensures cause { HasCause (D.seen disk.old).faults (D.seen disk.new).faults (state_failed result) }
 {
     let held = attach(alloc, disk)?;
-    device_widths(&held.device);
     let image = image_found(alloc, disk, &held.device)?;
     let configuration = commitment_found(alloc, &held.device)?;
     Ok(Audit {

@@ -1,23 +1,24 @@
 -- Signed attributes: what has no fault is spelled as its relation says, and what is spelled so has none.
-use Rattle.std.proofs.Common.{◌≡◌, ℕ, zero, suc, inl, inr, ◌⊎◌, ◌≤◌, ◌&&◌, ◌||◌, not, true, false, List, [], ◌∷◌, ◌++◌, length, Option, Some, None, refl, sym, ap, subst, ◌∙◌, arith}
 use Rattle.std.specs.Prelude.{bytes_eq, map, unwrap_or}
 use Rattle.std.specs.List.{concat}
+use Rattle.std.proofs.Common.{◌≡◌, ℕ, zero, suc, inl, inr, ◌⊎◌, ◌≤◌, ◌&&◌, ◌||◌, not, true, false, List, [], ◌∷◌, ◌++◌, length, Option, Some, None, refl, sym, ap, subst, ◌∙◌, arith}
 use Rattle.std.proofs.lemmas.Bool.{and_from, and_parts, and_right, both_ways, cases_Bool, not-true, not_from_false, or_left, or_right}
 use Rattle.std.proofs.lemmas.List.Folds.{list_any-append}
 use Rattle.sz_der.specs.Der.{AreOctets, Der}
+use Rattle.sz_der.specs.Spots.{after, AreEach, content_at, inside, is_at_end, is_next, Spot, spots_from, spots_upto, whole_at}
 use Rattle.sz_der.specs.declared.tag.TheConstants.{CONTEXT_CONSTRUCTED, OBJECT_IDENTIFIER, OCTET_STRING, SEQUENCE, SET}
-use Rattle.sz_cms.specs.Message.{AreWritten, Attribute, HasAttributes, HasOne, IsAttribute, IsAttributesField, SignedAttributes, values_of}
+use Rattle.sz_der.proofs.Octets.{same_bytes}
+use Rattle.sz_der.proofs.Joined.{after_nothing, alone, and_then, Der_with, last}
+use Rattle.sz_der.proofs.Optional.{absent, after_next, after_other, BeginsWithout, found_next, next_stands, Optional, present}
+use Rattle.sz_der.proofs.Spots.{behind, Behind, end_from_nothing, Found, found_part, holds_from_rule, inside-left, no_item-stands, no_part-stands, nothing_left, parts_of_none, rule_from_holds, Stands, stands}
+use Rattle.sz_der.proofs.SpotLists.{less_after}
+use Rattle.sz_cms.specs.Message.{Attribute, HasAttributes, HasOne, IsAttribute, IsAttributesField, SignedAttributes, values_of}
 use Rattle.sz_cms.specs.MessageFault.{attribute_fault, attributes_fault, each_after, has_both, is_known, known_fault, one_fault, stands_among, type_at, values_fault, values_spot}
-use Rattle.sz_cms.specs.Parts.{after, content_at, inside, is_at_end, is_next, Spot, spots_from, spots_upto, whole_at}
 use Rattle.sz_cms.specs.Places.{attributes_at, known_at, value_among, value_at, value_in}
 use Rattle.sz_cms.specs.declared.fault.InfoKind.TheVariants as kinds
 use Rattle.sz_cms.specs.declared.identifier.TheConstants.{CONTENT_TYPE, MESSAGE_DIGEST}
-use Rattle.sz_cms.proofs.Contents.{same_bytes}
-use Rattle.sz_cms.proofs.Joined.{after_nothing, alone, and_then, Der_with, last}
+use Rattle.sz_cms.proofs.Fields.{FieldClear}
 use Rattle.sz_cms.proofs.Lists.{are_written, clear_each, IsClear}
-use Rattle.sz_cms.proofs.Optional.{absent, after_next, after_other, BeginsWithout, FieldClear, found_next, next_stands, Optional, present}
-use Rattle.sz_cms.proofs.Spots.{Behind, behind, end_from_nothing, Found, found_part, holds_from_rule, inside-left, no_more_from_nothing, no_part-stands, nothing_left, nothing_more, parts_of_none, rule_from_holds, Stands, stands}
-use Rattle.sz_cms.proofs.Walk.{less_after}
 
 -- the attribute that stands at a spot
 abbrev attribute_at : Spot → Attribute
@@ -53,8 +54,8 @@ one_value tag spot fits n =
     let a = parts_of_none _ _ n in
     let b = parts_of_none _ _ a.1 in
     let c = parts_of_none _ _ b.1 in
-    let here = found_part tag spot fits b.0 in
-    let only = last (whole_at spot) here.joined (nothing_more kinds.Der kinds.Attribute (after spot) c.0) in
+    let here = found_part _ _ tag spot fits b.0 in
+    let only = last (whole_at spot) here.joined (nothing_left _ _ (after spot) c.0) in
     subst (λ (x : List ℕ). Der tag (content_at spot) x) (sym only) here.is_item
 
 one_clear : (tag : ℕ) (spot : Spot) (content whole : List ℕ) → Der tag content whole → spot.left ≡ whole →
@@ -64,8 +65,8 @@ one_clear tag spot content whole item joined =
     let here = stands spot tag content whole [] item (alone whole joined) in (
       rw (
         here.is_some,
-        no_part-stands spot tag content whole [] here,
-        no_more_from_nothing kinds.Der kinds.Attribute (after spot) here.after_is,
+        no_part-stands kinds.Der kinds.Shape spot tag content whole [] here,
+        end_from_nothing kinds.Der kinds.Attribute (after spot) here.after_is,
       ) refl,
       here.content_is,
     )
@@ -109,10 +110,10 @@ holds_here earlier spot fits n =
     let d = parts_of_none _ _ c.1 in
     let e = parts_of_none _ _ d.1 in
     let f = parts_of_none _ _ e.1 in
-    let sequence = found_part SEQUENCE spot fits a.0 in
-    let identifier = found_part OBJECT_IDENTIFIER (inside spot) sequence.inside b.0 in
-    let set = found_part SET (values_spot spot) identifier.after d.0 in
-    let only = and_then (whole_at (values_spot spot)) set.joined (nothing_left (after (values_spot spot)) f.0) in
+    let sequence = found_part _ _ SEQUENCE spot fits a.0 in
+    let identifier = found_part _ _ OBJECT_IDENTIFIER (inside spot) sequence.inside b.0 in
+    let set = found_part _ _ SET (values_spot spot) identifier.after d.0 in
+    let only = and_then (whole_at (values_spot spot)) set.joined (nothing_left _ _ (after (values_spot spot)) f.0) in
     let known = is_known (type_at spot) && stands_among earlier (type_at spot) in
     record {
       is_attribute = record {
@@ -198,7 +199,7 @@ known_from_none spot here n =
     record {
       each = map attribute_at (spots_from list);
       content = content_at spot;
-      are_attributes = subst (λ (x : List ℕ). AreWritten IsAttribute (map attribute_at (spots_from list)) x) (inside-left spot) written;
+      are_attributes = subst (λ (x : List ℕ). AreEach IsAttribute (map attribute_at (spots_from list)) x) (inside-left spot) written;
       one_content_type = one_of CONTENT_TYPE OBJECT_IDENTIFIER refl told_type [] (spots_from list) each stand.0;
       one_digest = one_of MESSAGE_DIGEST OCTET_STRING refl told_digest [] (spots_from list) each stand.1;
       is_set = here.is_item;
@@ -212,7 +213,7 @@ attributes_from_none spot fits n =
       | inl next ↦
           let a = parts_of_none _ _ (rw next at n) in
           let b = parts_of_none _ _ a.1 in
-          let here = found_next CONTEXT_CONSTRUCTED spot fits next a.0 in
+          let here = found_next _ CONTEXT_CONSTRUCTED spot fits next a.0 in
           present spot CONTEXT_CONSTRUCTED (IsAttributesField (attributes_at spot)) here next (rw next (known_from_none spot here b.0, refl))
       | inr other ↦ absent spot CONTEXT_CONSTRUCTED (IsAttributesField (attributes_at spot)) fits other (rw other refl)
     ]
@@ -306,12 +307,12 @@ attribute_clear earlier spot attribute attributes whole rest room is joined =
     let fresh = is_fresh (type_at spot) earlier (λ this. (type this).0) (λ this. (digest this).0) in
     record {
       no_fault = rw (
-        no_part-stands spot SEQUENCE (concat (is.identifier ∷ is.set ∷ [])) whole rest sequence,
-        no_part-stands (inside spot) OBJECT_IDENTIFIER attribute.type is.identifier (concat (is.set ∷ [])) identifier,
+        no_part-stands kinds.Der kinds.Shape spot SEQUENCE (concat (is.identifier ∷ is.set ∷ [])) whole rest sequence,
+        no_part-stands kinds.Der kinds.Shape (inside spot) OBJECT_IDENTIFIER attribute.type is.identifier (concat (is.set ∷ [])) identifier,
         rule_from_holds (not known) kinds.Attribute (inside spot) (not_from_false known fresh),
-        no_part-stands (values_spot spot) SET attribute.values is.set [] set,
+        no_part-stands kinds.Der kinds.Shape (values_spot spot) SET attribute.values is.set [] set,
         values_fit (type_at spot) values (λ this. (type this).1) (λ this. (digest this).1),
-        end_from_nothing (after (values_spot spot)) set.after_is,
+        end_from_nothing kinds.Der kinds.Shape (after (values_spot spot)) set.after_is,
       ) refl;
       value_is = same_attribute (type_at spot) (content_at (values_spot spot)) attribute identifier.content_is set.content_is;
       after_is = sequence.after_is;
@@ -375,7 +376,7 @@ attributes_clear spot (Some attributes) piece rest is without joined =
     let next = next_stands spot CONTEXT_CONSTRUCTED is.0.content attributes.whole rest here in
     let known = known_clear spot attributes is.0 rest here in
     record {
-      no_fault = rw (next, here.is_item, known.0) refl;
+      no_fault = rw (next, no_item-stands kinds.Der here, known.0) refl;
       value_is = rw next (ap (λ (x : SignedAttributes). Some x) known.1);
       after_is = rw (after_next CONTEXT_CONSTRUCTED spot next) here.after_is;
     }

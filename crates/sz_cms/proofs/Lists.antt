@@ -1,13 +1,12 @@
 -- Values written one after another: what has no fault is written as its relation says, and what is written so has none.
-use Rattle.std.proofs.Common.{◌≡◌, ℕ, zero, suc, inl, inr, ◌≤◌, true, false, List, [], ◌∷◌, ◌++◌, length, Option, None, refl, ap, ◌∙◌, arith}
 use Rattle.std.specs.Prelude.{map}
+use Rattle.std.proofs.Common.{◌≡◌, ℕ, zero, suc, inl, inr, ◌≤◌, true, false, List, [], ◌∷◌, ◌++◌, length, Option, None, refl, ap, ◌∙◌, arith}
 use Rattle.std.proofs.lemmas.Bool.{cases_Bool}
 use Rattle.sz_der.specs.Der.{AreOctets}
-use Rattle.sz_cms.specs.Message.{AreWritten}
+use Rattle.sz_der.specs.Spots.{after, AreEach, is_at_end, Spot, spots_upto, whole_at}
+use Rattle.sz_der.proofs.Spots.{Behind, nil_from_end, no_bytes, parts_of_none}
+use Rattle.sz_der.proofs.SpotLists.{less_after, some_left}
 use Rattle.sz_cms.specs.MessageFault.{each_after, Fault}
-use Rattle.sz_cms.specs.Parts.{after, is_at_end, Spot, spots_upto, whole_at}
-use Rattle.sz_cms.proofs.Spots.{Behind, nil_from_end, no_bytes, parts_of_none}
-use Rattle.sz_cms.proofs.Walk.{less_after, some_left}
 
 -- a value that is written at a spot has no fault, and is what is kept of it; then there is room for the others
 pub record IsClear {A : Type 0} (fault : List Spot → Spot → Option Fault) (at : Spot → A) (Room : List Spot → List A → Type 0)
@@ -21,7 +20,7 @@ pub record IsClear {A : Type 0} (fault : List Spot → Spot → Option Fault) (a
 module _ {A : Type 0} (fault : List Spot → Spot → Option Fault) (Is : A → List ℕ → Type 0) (at : Spot → A) where
   pub are_written : ((earlier : List Spot) (spot : Spot) → AreOctets spot.left → fault earlier spot ≡ None → Is (at spot) (whole_at spot) × Behind spot) →
       (n : ℕ) (earlier : List Spot) (spot : Spot) → length spot.left ≤ n → AreOctets spot.left →
-      each_after fault earlier (spots_upto n spot) ≡ None → AreWritten Is (map at (spots_upto n spot)) spot.left
+      each_after fault earlier (spots_upto n spot) ≡ None → AreEach Is (map at (spots_upto n spot)) spot.left
   unfolding spots_upto
   are_written shows zero earlier spot few fits e = no_bytes spot.left few
   are_written shows (suc n) earlier spot few fits e =
@@ -38,7 +37,7 @@ module _ {A : Type 0} (fault : List Spot → Spot → Option Fault) (Is : A → 
   pub clear_each : (Room : List Spot → List A → Type 0) →
       ((earlier : List Spot) (spot : Spot) (value : A) (values : List A) (whole rest : List ℕ) → Room earlier (value ∷ values) → Is value whole →
       spot.left ≡ whole ++ rest → IsClear fault at Room earlier spot value values rest) →
-      (n : ℕ) (earlier : List Spot) (spot : Spot) (values : List A) → length spot.left ≤ n → AreWritten Is values spot.left → Room earlier values →
+      (n : ℕ) (earlier : List Spot) (spot : Spot) (values : List A) → length spot.left ≤ n → AreEach Is values spot.left → Room earlier values →
       (each_after fault earlier (spots_upto n spot) ≡ None) × (map at (spots_upto n spot) ≡ values)
   unfolding spots_upto is_at_end
   clear_each Room step zero earlier spot [] few are room = (refl, refl)

@@ -1,33 +1,34 @@
 -- Steps of the readers, by the spots before and after them.
-use Rattle.std.proofs.Common.{◌≡◌, ℕ, suc, inl, inr, ◌⊎◌, ◌<◌, ◌≤◌, ◌&&◌, ◌||◌, not, cond, Bool, true, false, Bor, List, [], ◌∷◌, ◌++◌, length, get_or, Option, Some, None, Result, Ok, Err, refl, sym, ap, ◌∙◌, arith, length-drop, get_or-take}
 use Rattle.std.specs.Prelude.{◌==◌, bytes_eq, filter, IfErr, is_some, IsErrAnd, map, nat_lt, OnOk, slice_index}
 use Rattle.std.specs.Option.{option_copied}
-use Rattle.arrayvec.specs.ArrayVec.{ArrayVec}
 use Rattle.std.specs.List.{find, list_any}
+use Rattle.std.proofs.Common.{◌≡◌, ℕ, suc, inl, inr, ◌⊎◌, ◌<◌, ◌≤◌, ◌&&◌, ◌||◌, not, cond, Bool, true, false, Bor, List, [], ◌∷◌, ◌++◌, length, get_or, Option, Some, None, Result, Ok, Err, refl, sym, ap, ◌∙◌, arith, length-drop, get_or-take}
 use Rattle.std.proofs.lemmas.Bool.{and_right, both_ways, cases_Bool, eqb-false, eqb-true, eq-eqb, ne_eqb, lt-ltb, le-ltb, or_left, or_right}
 use Rattle.std.proofs.lemmas.List.{append-nil}
+use Rattle.arrayvec.specs.ArrayVec.{ArrayVec}
 use Rattle.sz_der.specs.Reader.{place_of}
+use Rattle.sz_der.specs.Spots.{after, at, front, inside, is_at_end, place_at, size_at, Spot, spot_of, tag_at, whole_at}
 use Rattle.sz_der.specs.declared.reader.DerReader.{DerReader}
 use Rattle.sz_der.specs.declared.tag.TheConstants.{SEQUENCE}
+use Rattle.sz_der.specs.declared.parts.PartFault.{PartFault}
+use Rattle.sz_der.proofs.Octets.{same_bytes}
+use Rattle.sz_der.proofs.Spots.{rule_from_holds}
+use Rattle.sz_der.proofs.SpotLists.{some_left}
 use Rattle.sz_cms.specs.Kind.{identifier_of, IsKindOf}
-use Rattle.sz_cms.specs.declared.kind.Kind.{Kind}
-use Rattle.sz_cms.specs.declared.kind.Kind.TheVariants as kind
 use Rattle.sz_cms.specs.Known.{AreKnown, IsWith, value_with}
 use Rattle.sz_cms.specs.MessageFault.{choice_fault, Fault, has_both, is_known, is_sequence, sequences_at, some_item, stands_among, type_at, values_spot}
-use Rattle.sz_cms.specs.Parts.{after, front, inside, is_at_end, place_at, size_at, Spot, spot_of, tag_at, whole_at}
 use Rattle.sz_cms.specs.Places.{signer_at, value_among, value_at}
-use Rattle.sz_cms.specs.View.{at, IsNamed, signer_of}
+use Rattle.sz_cms.specs.View.{IsNamed, signer_of}
+use Rattle.sz_cms.specs.Message as message
+use Rattle.sz_cms.specs.Message.{is_hss_lms, is_sha256, sequences_of}
+use Rattle.sz_cms.specs.declared.kind.Kind.{Kind}
+use Rattle.sz_cms.specs.declared.kind.Kind.TheVariants as kind
 use Rattle.sz_cms.specs.declared.attributes.KnownValues.{KnownValues}
-use Rattle.sz_cms.specs.declared.fault.InfoFault.{InfoFault}
+use Rattle.sz_cms.specs.declared.fault.InfoKind.{InfoKind}
 use Rattle.sz_cms.specs.declared.fault.InfoKind.TheVariants as kinds
 use Rattle.sz_cms.specs.declared.identifier.TheConstants.{CONTENT_TYPE, MESSAGE_DIGEST}
 use Rattle.sz_cms.specs.declared.info.TheConstants.{MOST_SIGNERS}
 use Rattle.sz_cms.specs.declared.signer.Signer.{Signer}
-use Rattle.sz_cms.specs.Message as message
-use Rattle.sz_cms.specs.Message.{is_hss_lms, is_sha256, sequences_of}
-use Rattle.sz_cms.proofs.Contents.{same_bytes}
-use Rattle.sz_cms.proofs.Spots.{rule_from_holds}
-use Rattle.sz_cms.proofs.Walk.{some_left}
 
 -- what holds holds where the answer is Ok
 pub on_ok : {T E P : Type 0} (result : Result T E) → P → OnOk result P
@@ -35,7 +36,7 @@ on_ok (Ok value) p = p
 on_ok (Err e) p = tt
 
 -- a step that hands a fault on, which holds after whatever was before
-pub exit_all : {T A : Type 0} {Q : A → Type 0} (result : Result T InfoFault) (found : A → Option Fault) (fault : InfoFault) →
+pub exit_all : {T A : Type 0} {Q : A → Type 0} (result : Result T (PartFault InfoKind)) (found : A → Option Fault) (fault : PartFault InfoKind) →
     IsErrAnd result (λ e. e ≡ fault) → ((a : A) → Q a → found a ≡ Some (at fault)) → IfErr result (λ e. (a : A) → Q a → found a ≡ Some (at e))
 exit_all (Ok value) found fault is h = absurd is
 exit_all (Err e) found fault is h = rw is h

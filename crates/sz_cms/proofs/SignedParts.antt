@@ -1,23 +1,24 @@
 -- The parts of SignedData before its signers: what has no fault is spelled as its relation says, and what is spelled so
 -- has none.
-use Rattle.std.proofs.Common.{◌≡◌, ℕ, ◌+◌, inl, inr, ◌<◌, ◌≤◌, ◌||◌, not, List, [], ◌∷◌, ◌++◌, length, get_or, Option, Some, None, refl, sym, ap, subst, ◌∙◌, append_assoc, arith, length-append}
 use Rattle.std.specs.Prelude.{◌==◌, map, nat_lt}
 use Rattle.std.specs.List.{concat}
+use Rattle.std.proofs.Common.{◌≡◌, ℕ, ◌+◌, inl, inr, ◌<◌, ◌≤◌, ◌||◌, not, List, [], ◌∷◌, ◌++◌, length, get_or, Option, Some, None, refl, sym, ap, subst, ◌∙◌, append_assoc, arith, length-append}
 use Rattle.std.proofs.lemmas.Bool.{cases_Bool, eqb-false, eqb-true, lt-ltb, ltb-true}
 use Rattle.std.proofs.lemmas.List.{append-nil}
 use Rattle.sz_der.specs.Der.{AreOctets, Der}
+use Rattle.sz_der.specs.Spots.{after, after_optional, content_at, inside, is_next, Spot, spots_from, tag_at, whole_at}
 use Rattle.sz_der.specs.declared.tag.TheConstants.{CONTEXT_CONSTRUCTED, OBJECT_IDENTIFIER, OCTET_STRING, SEQUENCE, SET}
+use Rattle.sz_der.proofs.Joined.{after_nothing, alone, and_then, Der_with, last}
+use Rattle.sz_der.proofs.Optional.{absent, after_next, after_other, BeginsWithout, found_next, next_stands, Optional, present, without_nothing}
+use Rattle.sz_der.proofs.Spots.{behind, Behind, end_from_nothing, found, found_part, holds_from_rule, inside-left, no_item-stands, no_part-stands, nothing_left, parts_of_none, stands}
 use Rattle.sz_cms.specs.Message.{Algorithm, AreAlgorithms, AreChoices, IsAlgorithm, IsChoicesField, IsContent, IsContentField, IsItem, sequences_of}
 use Rattle.sz_cms.specs.MessageFault.{algorithm_fault, algorithms_fault, choice_fault, choices_fault, content_fault, content_field_fault, each_after, is_sequence, octets_fault, sequences_at}
-use Rattle.sz_cms.specs.Parts.{after, after_optional, content_at, inside, is_next, Spot, spots_from, tag_at, whole_at}
 use Rattle.sz_cms.specs.Places.{algorithm_at, choices_at, content_field_at}
 use Rattle.sz_cms.specs.declared.fault.InfoKind.TheVariants as kinds
-use Rattle.sz_cms.proofs.Joined.{after_nothing, alone, and_then, Der_with, last}
+use Rattle.sz_cms.proofs.Fields.{FieldClear}
 use Rattle.sz_cms.proofs.Lists.{are_written, clear_each, IsClear}
-use Rattle.sz_cms.proofs.Optional.{absent, after_next, after_other, BeginsWithout, FieldClear, found_next, next_stands, Optional, present, without_nothing}
 use Rattle.sz_cms.proofs.Readings.{begins, choice_fits, choice_other, kept_more, kept_other, sequence_is}
 use Rattle.sz_cms.proofs.SignerLaws.{algorithm_clear, algorithm_from_none}
-use Rattle.sz_cms.proofs.Spots.{Behind, behind, end_from_nothing, found, found_part, holds_from_rule, inside-left, no_part-stands, nothing_left, parts_of_none, stands}
 
 -- ---- SET OF AlgorithmIdentifier
 
@@ -27,7 +28,7 @@ algorithms_from_none spot fits n =
     let list = inside spot in
     let a = parts_of_none _ _ n in
     let b = parts_of_none _ _ a.1 in
-    let here = found_part SET spot fits a.0 in
+    let here = found_part _ _ SET spot fits a.0 in
     let are = are_written (λ _. algorithm_fault) IsAlgorithm algorithm_at (λ earlier. algorithm_from_none) (length list.left) [] list (omega arith)
     here.inside b.0 in (
       record {
@@ -58,7 +59,7 @@ algorithms_clear spot whole rest are joined =
     let list = inside spot in
     let each = clear_each (λ _. algorithm_fault) IsAlgorithm algorithm_at AnyRoom one_algorithm_clear (length list.left) [] list are.algorithms (omega arith)
     (rw here.inside_is are.are_algorithms) tt in
-    (rw (no_part-stands spot SET are.content whole rest here, each.0) refl, here.after_is)
+    (rw (no_part-stands kinds.Der kinds.Shape spot SET are.content whole rest here, each.0) refl, here.after_is)
 
 -- ---- an OCTET STRING alone
 
@@ -67,8 +68,8 @@ unfolding octets_fault
 octets_from_none spot fits n =
     let a = parts_of_none _ _ n in
     let b = parts_of_none _ _ a.1 in
-    let here = found_part OCTET_STRING spot fits a.0 in
-    let only = last (whole_at spot) here.joined (nothing_left (after spot) b.0) in
+    let here = found_part _ _ OCTET_STRING spot fits a.0 in
+    let only = last (whole_at spot) here.joined (nothing_left _ _ (after spot) b.0) in
     subst (λ (x : List ℕ). Der OCTET_STRING (content_at spot) x) (sym only) here.is_item
 
 pub octets_clear : (spot : Spot) (octets whole : List ℕ) → Der OCTET_STRING octets whole → spot.left ≡ whole →
@@ -76,7 +77,8 @@ pub octets_clear : (spot : Spot) (octets whole : List ℕ) → Der OCTET_STRING 
 unfolding octets_fault
 octets_clear spot octets whole item left =
     let here = stands spot OCTET_STRING octets whole [] item (alone whole left) in
-    (rw (no_part-stands spot OCTET_STRING octets whole [] here, end_from_nothing (after spot) here.after_is) refl, here.content_is)
+    let nothing = end_from_nothing kinds.Der kinds.Shape (after spot) here.after_is in
+    (rw (no_part-stands kinds.Der kinds.Shape spot OCTET_STRING octets whole [] here, nothing) refl, here.content_is)
 
 -- ---- EncapsulatedContentInfo
 
@@ -88,7 +90,7 @@ content_field_from_none spot fits n =
       | inl next ↦
           let a = parts_of_none _ _ (rw next at n) in
           let b = parts_of_none _ _ a.1 in
-          let here = found_next CONTEXT_CONSTRUCTED spot fits next a.0 in
+          let here = found_next _ CONTEXT_CONSTRUCTED spot fits next a.0 in
           let octets = octets_from_none (inside spot) here.inside b.0 in
           present spot CONTEXT_CONSTRUCTED (IsContentField (content_field_at spot)) here next
           (rw next (record { inner = (inside spot).left; is_octets = octets; is_explicit = Der_with (sym (inside-left spot)) here.is_item }))
@@ -107,7 +109,7 @@ content_field_clear spot (Some content) piece is joined =
     let next = next_stands spot CONTEXT_CONSTRUCTED is.inner piece [] here in
     let octets = octets_clear (inside spot) content is.inner is.is_octets here.inside_is in
     record {
-      no_fault = rw (next, here.is_item, octets.0) refl;
+      no_fault = rw (next, no_item-stands kinds.Der here, octets.0) refl;
       value_is = rw next (ap (λ (x : List ℕ). Some x) octets.1);
       after_is = rw (after_next CONTEXT_CONSTRUCTED spot next) here.after_is;
     }
@@ -120,10 +122,10 @@ content_from_none spot fits n =
     let b = parts_of_none _ _ a.1 in
     let c = parts_of_none _ _ b.1 in
     let d = parts_of_none _ _ c.1 in
-    let here = found_part SEQUENCE spot fits a.0 in
-    let identifier = found_part OBJECT_IDENTIFIER (inside spot) here.inside b.0 in
+    let here = found_part _ _ SEQUENCE spot fits a.0 in
+    let identifier = found_part _ _ OBJECT_IDENTIFIER (inside spot) here.inside b.0 in
     let field = content_field_from_none (after (inside spot)) identifier.after c.0 in
-    let only = and_then field.piece field.joined (nothing_left (after_optional CONTEXT_CONSTRUCTED (after (inside spot))) d.0) in (
+    let only = and_then field.piece field.joined (nothing_left _ _ (after_optional CONTEXT_CONSTRUCTED (after (inside spot))) d.0) in (
       record {
         identifier = whole_at (inside spot);
         field = field.piece;
@@ -150,10 +152,10 @@ content_clear spot kind content whole rest is joined =
     let field = content_field_clear (after (inside spot)) content is.field is.is_field identifier.after_is in
     record {
       no_fault = rw (
-        no_part-stands spot SEQUENCE (concat (is.identifier ∷ is.field ∷ [])) whole rest here,
-        no_part-stands (inside spot) OBJECT_IDENTIFIER kind is.identifier (concat (is.field ∷ [])) identifier,
+        no_part-stands kinds.Der kinds.Shape spot SEQUENCE (concat (is.identifier ∷ is.field ∷ [])) whole rest here,
+        no_part-stands kinds.Der kinds.Shape (inside spot) OBJECT_IDENTIFIER kind is.identifier (concat (is.field ∷ [])) identifier,
         field.no_fault,
-        end_from_nothing (after_optional CONTEXT_CONSTRUCTED (after (inside spot))) field.after_is,
+        end_from_nothing kinds.Der kinds.Shape (after_optional CONTEXT_CONSTRUCTED (after (inside spot))) field.after_is,
       ) refl;
       kind_is = identifier.content_is;
       content_is = field.value_is;
@@ -215,7 +217,7 @@ module _ (most : ℕ) where
             let list = inside spot in
             let a = parts_of_none _ _ (rw next at n) in
             let b = parts_of_none _ _ a.1 in
-            let here = found_next tag spot fits next a.0 in
+            let here = found_next _ tag spot fits next a.0 in
             let are = are_written (choice_fault most) IsWhole whole_at choice_shows (length list.left) [] list (omega arith) here.inside b.0 in
             let choices : AreChoices most (sequences_at (spots_from list)) list.left = record {
               items = map whole_at (spots_from list);
@@ -246,7 +248,7 @@ module _ (most : ℕ) where
             let within = lt-ltb (length (sequences_at earlier)) most (omega (arith, room.few)) in
             let more = ap (λ (xs : List (List ℕ)). length xs) (kept_more earlier spot sequence) in
             record {
-              no_fault = choice_fits most earlier spot here.is_item within;
+              no_fault = choice_fits most earlier spot (no_item-stands kinds.Der here) within;
               value_is = same;
               after_is = here.after_is;
               some = here.is_some;
@@ -258,7 +260,7 @@ module _ (most : ℕ) where
             let count = ap (λ (xs : List (List ℕ)). length xs) kept in
             let stays = ap (λ (xs : List (List ℕ)). length xs) (kept_other earlier spot other) in
             record {
-              no_fault = choice_other most earlier spot here.is_item other;
+              no_fault = choice_other most earlier spot (no_item-stands kinds.Der here) other;
               value_is = same;
               after_is = here.after_is;
               some = here.is_some;
@@ -282,7 +284,7 @@ module _ (most : ℕ) where
       let each = clear_each (choice_fault most) IsWhole whole_at Room choice_clear (length list.left) [] list are.items (omega arith)
       (rw here.inside_is are.are_items) room in
       record {
-        no_fault = rw (next, here.is_item, each.0) refl;
+        no_fault = rw (next, no_item-stands kinds.Der here, each.0) refl;
         value_is = rw next (ap sequences_of each.1 ∙ sym are.sequences);
         after_is = rw (after_next tag spot next) here.after_is;
       }

@@ -1,40 +1,39 @@
 -- Signers and their parts: what has no fault is spelled as its relation says, and what is spelled so has none.
-use Rattle.std.proofs.Common.{◌≡◌, ℕ, inl, inr, ◌⊎◌, true, false, List, [], ◌∷◌, ◌++◌, Option, None, refl, sym, ap, ◌∙◌, arith}
 use Rattle.std.specs.List.{concat}
+use Rattle.std.proofs.Common.{◌≡◌, ℕ, inl, inr, ◌⊎◌, true, false, List, [], ◌∷◌, ◌++◌, Option, None, refl, sym, ap, ◌∙◌, arith}
 use Rattle.std.proofs.lemmas.Bool.{cases_Bool}
 use Rattle.sz_der.specs.Der.{AreOctets, Der}
-use Rattle.sz_der.specs.Integer.{IsInteger}
+use Rattle.sz_der.specs.Integer.{is_integer, IsInteger}
+use Rattle.sz_der.specs.Spots.{no_integer, after, content_at, inside, is_at_end, is_next, Spot, tag_at, whole_at}
 use Rattle.sz_der.specs.declared.tag.TheConstants.{CONTEXT_PRIMITIVE, INTEGER, OBJECT_IDENTIFIER, SEQUENCE}
-use Rattle.sz_cms.specs.Contents.{is_integer}
+use Rattle.sz_der.proofs.IntegerTest.{integer_test, IsInteger_from_test}
+use Rattle.sz_der.proofs.Joined.{and_then, Der_with}
+use Rattle.sz_der.proofs.Optional.{found_next, next_stands, without_item}
+use Rattle.sz_der.proofs.Spots.{behind, Behind, end_from_nothing, Found, found, found_part, holds_from_rule, inside-left, nil_from_end, no_item-stands, no_part-stands, nothing_left, parts_of_none, rule_from_holds, Stands, stands}
 use Rattle.sz_cms.specs.Message.{Algorithm, Identifier, IsAlgorithm, IsIdentifier, IsIssuerSerial, IsItem, IssuerSerial, KeyId}
 use Rattle.sz_cms.specs.MessageFault.{algorithm_fault, identifier_fault, integer_fault, issuer_serial_fault, parameters_fault, parameters_spot}
-use Rattle.sz_cms.specs.Parts.{after, content_at, inside, is_at_end, is_next, Spot, tag_at, whole_at}
 use Rattle.sz_cms.specs.Places.{algorithm_at, identifier_at, issuer_serial_at, parameters_at}
 use Rattle.sz_cms.specs.declared.fault.InfoKind.TheVariants as kinds
-use Rattle.sz_cms.proofs.Contents.{integer_test, IsInteger_from_test}
-use Rattle.sz_cms.proofs.Joined.{and_then, Der_with}
-use Rattle.sz_cms.proofs.Optional.{found_next, next_stands, without_item}
-use Rattle.sz_cms.proofs.Spots.{Behind, behind, end_from_nothing, Found, found, found_part, holds_from_rule, inside-left, nil_from_end, no_part-stands, nothing_left, parts_of_none, rule_from_holds, Stands, stands}
 
 -- ---- INTEGER
 
 pub integer_from_none : (spot : Spot) → AreOctets spot.left → integer_fault spot ≡ None → IsInteger (content_at spot) × Found spot INTEGER
-unfolding integer_fault
+unfolding no_integer
 integer_from_none spot fits n =
     let a = parts_of_none _ _ n in
     let b = parts_of_none _ _ a.1 in (
       IsInteger_from_test (content_at spot) (holds_from_rule (is_integer (content_at spot)) kinds.Der spot b.0),
-      found_part INTEGER spot fits a.0,
+      found_part _ _ INTEGER spot fits a.0,
     )
 
 pub integer_clear : (spot : Spot) (number whole rest : List ℕ) → IsInteger number → Der INTEGER number whole → spot.left ≡ whole ++ rest →
     (integer_fault spot ≡ None) × Stands spot INTEGER number whole rest
-unfolding integer_fault
+unfolding no_integer
 integer_clear spot number whole rest minimal item joined =
     let here = stands spot INTEGER number whole rest item joined in
     let test : is_integer (content_at spot) ≡ true = rw here.content_is (integer_test number minimal) in (
       rw (
-        no_part-stands spot INTEGER number whole rest here,
+        no_part-stands kinds.Der kinds.Shape spot INTEGER number whole rest here,
         rule_from_holds (is_integer (content_at spot)) kinds.Der spot test,
       ) refl,
       here,
@@ -52,7 +51,7 @@ parameters_from_none spot fits n =
           let a = parts_of_none _ _ (rw more at n) in
           let b = parts_of_none _ _ a.1 in
           let here = found kinds.Der spot fits a.0 in
-          rw more (inr (tag_at spot, content_at spot, here.is_item), and_then (whole_at spot) here.joined (nothing_left (after spot) b.0))
+          rw more (inr (tag_at spot, content_at spot, here.is_item), and_then (whole_at spot) here.joined (nothing_left _ _ (after spot) b.0))
     ]
 
 parameters_clear : (spot : Spot) (parameters : List ℕ) → (parameters ≡ []) ⊎ IsItem parameters → spot.left ≡ parameters ++ [] →
@@ -63,7 +62,7 @@ parameters_clear spot parameters (inl nothing) joined =
     rw left (refl, sym nothing)
 parameters_clear spot parameters (inr item) joined =
     let here = stands spot item.0 item.1 parameters [] item.2 joined in
-    (rw (here.is_some, here.is_item, end_from_nothing (after spot) here.after_is) refl, rw here.is_some here.whole_is)
+    (rw (here.is_some, no_item-stands kinds.Der here, end_from_nothing kinds.Der kinds.Shape (after spot) here.after_is) refl, rw here.is_some here.whole_is)
 
 pub algorithm_from_none : (spot : Spot) → AreOctets spot.left → algorithm_fault spot ≡ None → IsAlgorithm (algorithm_at spot) (whole_at spot) × Behind spot
 unfolding algorithm_fault algorithm_at
@@ -71,8 +70,8 @@ algorithm_from_none spot fits n =
     let a = parts_of_none _ _ n in
     let b = parts_of_none _ _ a.1 in
     let c = parts_of_none _ _ b.1 in
-    let sequence = found_part SEQUENCE spot fits a.0 in
-    let identifier = found_part OBJECT_IDENTIFIER (inside spot) sequence.inside b.0 in
+    let sequence = found_part _ _ SEQUENCE spot fits a.0 in
+    let identifier = found_part _ _ OBJECT_IDENTIFIER (inside spot) sequence.inside b.0 in
     let parameters = parameters_from_none (parameters_spot spot) identifier.after c.0 in (
       record {
         identifier = whole_at (inside spot);
@@ -104,8 +103,8 @@ algorithm_clear spot algorithm whole rest is joined =
     let parameters = parameters_clear (parameters_spot spot) algorithm.parameters is.is_parameters identifier.after_is in
     record {
       no_fault = rw (
-        no_part-stands spot SEQUENCE (concat (is.identifier ∷ algorithm.parameters ∷ [])) whole rest sequence,
-        no_part-stands (inside spot) OBJECT_IDENTIFIER algorithm.identifier is.identifier (concat (algorithm.parameters ∷ [])) identifier,
+        no_part-stands kinds.Der kinds.Shape spot SEQUENCE (concat (is.identifier ∷ algorithm.parameters ∷ [])) whole rest sequence,
+        no_part-stands kinds.Der kinds.Shape (inside spot) OBJECT_IDENTIFIER algorithm.identifier is.identifier (concat (algorithm.parameters ∷ [])) identifier,
         parameters.0,
       ) refl;
       value_is = same_algorithm (content_at (inside spot)) (parameters_at (parameters_spot spot)) algorithm identifier.content_is parameters.1;
@@ -123,10 +122,10 @@ issuer_serial_from_none spot fits n =
     let b = parts_of_none _ _ a.1 in
     let c = parts_of_none _ _ b.1 in
     let d = parts_of_none _ _ c.1 in
-    let sequence = found_part SEQUENCE spot fits a.0 in
-    let issuer = found_part SEQUENCE (inside spot) sequence.inside b.0 in
+    let sequence = found_part _ _ SEQUENCE spot fits a.0 in
+    let issuer = found_part _ _ SEQUENCE (inside spot) sequence.inside b.0 in
     let serial = integer_from_none (after (inside spot)) issuer.after c.0 in
-    let only = and_then (whole_at (after (inside spot))) serial.1.joined (nothing_left (after (after (inside spot))) d.0) in (
+    let only = and_then (whole_at (after (inside spot))) serial.1.joined (nothing_left _ _ (after (after (inside spot))) d.0) in (
       record {
         names = content_at (inside spot);
         number = whole_at (after (inside spot));
@@ -147,10 +146,10 @@ issuer_serial_clear spot issuer serial whole rest is joined =
     let number = integer_clear (after (inside spot)) serial is.number [] is.is_minimal is.is_serial name.after_is in
     record {
       no_fault = rw (
-        no_part-stands spot SEQUENCE (concat (issuer ∷ is.number ∷ [])) whole rest sequence,
-        no_part-stands (inside spot) SEQUENCE is.names issuer (concat (is.number ∷ [])) name,
+        no_part-stands kinds.Der kinds.Shape spot SEQUENCE (concat (issuer ∷ is.number ∷ [])) whole rest sequence,
+        no_part-stands kinds.Der kinds.Shape (inside spot) SEQUENCE is.names issuer (concat (is.number ∷ [])) name,
         number.0,
-        end_from_nothing (after (after (inside spot))) number.1.after_is,
+        end_from_nothing kinds.Der kinds.Shape (after (after (inside spot))) number.1.after_is,
       ) refl;
       value_is = rw (name.whole_is, number.1.content_is) refl;
       after_is = sequence.after_is;
@@ -162,7 +161,7 @@ unfolding identifier_fault identifier_at
 identifier_from_none spot fits n =
     elim (cases_Bool (is_next CONTEXT_PRIMITIVE spot)) [
       | inl next ↦
-          let here = found_next CONTEXT_PRIMITIVE spot fits next (rw next at n) in
+          let here = found_next _ CONTEXT_PRIMITIVE spot fits next (rw next at n) in
           rw next (here.is_item, behind here)
       | inr other ↦ rw other (issuer_serial_from_none spot fits (rw other at n))
     ]
@@ -176,4 +175,4 @@ identifier_clear spot (IssuerSerial issuer serial) whole rest is joined =
 identifier_clear spot (KeyId octets) whole rest is joined =
     let here = stands spot CONTEXT_PRIMITIVE octets whole rest is joined in
     let next = next_stands spot CONTEXT_PRIMITIVE octets whole rest here in
-    rw next (record { no_fault = here.is_item; value_is = ap KeyId here.content_is; after_is = here.after_is; some = here.is_some })
+    rw next (record { no_fault = no_item-stands kinds.Der here; value_is = ap KeyId here.content_is; after_is = here.after_is; some = here.is_some })

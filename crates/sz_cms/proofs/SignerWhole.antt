@@ -1,24 +1,24 @@
 -- SignerInfo as a whole, and a list of them: what has no fault is spelled as the relation says, and what is spelled so
 -- has none.
-use Rattle.std.proofs.Common.{◌≡◌, ℕ, ◌+◌, inl, inr, ◌<◌, ◌≤◌, ◌&&◌, List, [], ◌∷◌, ◌++◌, length, None, refl, sym, ◌∙◌, arith, length-append}
 use Rattle.std.specs.Prelude.{map, nat_lt}
 use Rattle.std.specs.List.{concat}
+use Rattle.std.proofs.Common.{◌≡◌, ℕ, ◌+◌, inl, inr, ◌<◌, ◌≤◌, ◌&&◌, List, [], ◌∷◌, ◌++◌, length, None, refl, sym, ◌∙◌, arith, length-append}
 use Rattle.std.proofs.lemmas.Bool.{cases_Bool, lt-ltb, ltb-true}
 use Rattle.sz_der.specs.Der.{AreOctets}
+use Rattle.sz_der.specs.Spots.{after_optional, content_at, inside, is_next, Spot, spots_from, whole_at}
 use Rattle.sz_der.specs.declared.tag.TheConstants.{CONTEXT_CONSTRUCTED, OCTET_STRING, SEQUENCE, SET}
+use Rattle.sz_der.proofs.Joined.{after_nothing, and_then, Der_with}
+use Rattle.sz_der.proofs.Optional.{absent, after_next, after_other, found_next, next_stands, Optional, present, without_item, without_nothing}
+use Rattle.sz_der.proofs.Spots.{behind, Behind, end_from_nothing, Found, found_part, holds_from_rule, inside-left, no_item-stands, no_part-stands, nothing_left, parts_of_none, rule_from_holds, stands}
 use Rattle.sz_cms.specs.Message.{AreSigners, IsOptional, IsSigner, Signer, signer_parts, SignerParts, is_hss_lms, is_sha256}
 use Rattle.sz_cms.specs.MessageFault.{algorithm_spot, attributes_spot, digest_spot, each_after, identifier_spot, signature_spot, signer_fault, signer_parts_fault, signers_fault, unsigned_fault, unsigned_spot, unsigned_tag}
-use Rattle.sz_cms.specs.Parts.{after_optional, content_at, inside, is_next, Spot, spots_from, whole_at}
 use Rattle.sz_cms.specs.Places.{algorithm_at, attributes_at, identifier_at, signer_at, signer_from, signers_at}
 use Rattle.sz_cms.specs.declared.fault.InfoKind.TheVariants as kinds
 use Rattle.sz_cms.specs.declared.info.TheConstants.{MOST_SIGNERS}
 use Rattle.sz_cms.proofs.AttributeLaws.{attributes_clear, attributes_from_none}
-use Rattle.sz_cms.proofs.Joined.{after_nothing, and_then, Der_with}
 use Rattle.sz_cms.proofs.Lists.{are_written, clear_each, IsClear}
-use Rattle.sz_cms.proofs.Optional.{absent, after_next, after_other, found_next, next_stands, Optional, present, without_item, without_nothing}
 use Rattle.sz_cms.proofs.Readings.{by_hss_is, same_signer}
 use Rattle.sz_cms.proofs.SignerLaws.{algorithm_clear, algorithm_from_none, Clear, identifier_clear, identifier_from_none, integer_clear, integer_from_none}
-use Rattle.sz_cms.proofs.Spots.{Behind, behind, end_from_nothing, Found, found_part, holds_from_rule, inside-left, no_part-stands, nothing_left, parts_of_none, rule_from_holds, stands}
 
 -- ---- unsigned attributes
 
@@ -28,7 +28,7 @@ unsigned_from_none spot fits n =
     elim (cases_Bool (is_next unsigned_tag spot)) [
       | inl next ↦
           let a = parts_of_none _ _ (rw next at n) in
-          let here = found_next unsigned_tag spot fits next a.0 in
+          let here = found_next _ unsigned_tag spot fits next a.0 in
           present spot unsigned_tag (IsOptional unsigned_tag) here next (inr (content_at spot, here.is_item))
       | inr other ↦ absent spot unsigned_tag (IsOptional unsigned_tag) fits other (inl refl)
     ]
@@ -43,7 +43,7 @@ unsigned_clear spot piece (inl nothing) joined =
 unsigned_clear spot piece (inr some) joined =
     let here = stands spot unsigned_tag some.0 piece [] some.1 joined in
     let next = next_stands spot unsigned_tag some.0 piece [] here in
-    (rw (next, here.is_item) refl, rw (after_next unsigned_tag spot next) here.after_is)
+    (rw (next, no_item-stands kinds.Der here) refl, rw (after_next unsigned_tag spot next) here.after_is)
 
 -- ---- SignerInfo
 
@@ -64,9 +64,9 @@ signer_from_none spot here n =
     let digest = algorithm_from_none (digest_spot first) identifier.1.after c.0 in
     let attributes = attributes_from_none (attributes_spot first) digest.1.after d.0 in
     let algorithm = algorithm_from_none (algorithm_spot first) attributes.after e.0 in
-    let signature = found_part OCTET_STRING (signature_spot first) algorithm.1.after f.0 in
+    let signature = found_part _ _ OCTET_STRING (signature_spot first) algorithm.1.after f.0 in
     let unsigned = unsigned_from_none (unsigned_spot first) signature.after g.0 in
-    let only = and_then unsigned.piece unsigned.joined (nothing_left (after_optional unsigned_tag (unsigned_spot first)) h.0) in
+    let only = and_then unsigned.piece unsigned.joined (nothing_left _ _ (after_optional unsigned_tag (unsigned_spot first)) h.0) in
     let tail = and_then (whole_at (algorithm_spot first)) algorithm.1.joined (and_then (whole_at (signature_spot first)) signature.joined only) in
     let middle = and_then (whole_at (digest_spot first)) digest.1.joined (and_then attributes.piece attributes.joined tail) in
     let all = and_then (whole_at first) version.1.joined (and_then (whole_at (identifier_spot first)) identifier.1.joined middle) in
@@ -121,9 +121,9 @@ signer_parts_clear first signer bytes is left =
         digest.no_fault,
         attributes.no_fault,
         algorithm.no_fault,
-        no_part-stands (signature_spot first) OCTET_STRING _ _ _ signature,
+        no_part-stands kinds.Der kinds.Shape (signature_spot first) OCTET_STRING _ _ _ signature,
         unsigned.0,
-        end_from_nothing (after_optional unsigned_tag (unsigned_spot first)) unsigned.1,
+        end_from_nothing kinds.Der kinds.Shape (after_optional unsigned_tag (unsigned_spot first)) unsigned.1,
       ) refl,
       same_signer (identifier_at (identifier_spot first)) signer.identifier
           (is_sha256 (algorithm_at (digest_spot first)) && is_hss_lms (algorithm_at (algorithm_spot first))) signer.by_hss
@@ -140,7 +140,7 @@ signer_shows earlier spot fits n =
     let a = parts_of_none _ _ n in
     let b = parts_of_none _ _ a.1 in
     let c = parts_of_none _ _ b.1 in
-    let here = found_part SEQUENCE spot fits a.0 in
+    let here = found_part _ _ SEQUENCE spot fits a.0 in
     (signer_from_none spot here c.0, behind here)
 
 signer_within : (earlier : List Spot) (spot : Spot) → signer_fault earlier spot ≡ None → length earlier < MOST_SIGNERS
@@ -167,7 +167,7 @@ signers_from_none spot fits n =
     let list = inside spot in
     let a = parts_of_none _ _ n in
     let b = parts_of_none _ _ a.1 in
-    let here = found_part SET spot fits a.0 in
+    let here = found_part _ _ SET spot fits a.0 in
     let are = are_written signer_fault IsSigner signer_at signer_shows (length list.left) [] list (omega arith) here.inside b.0 in
     let few = few_from_none [] (spots_from list) (omega arith) b.0 in (
       record { content = list.left; are_signers = are; is_set = Der_with (sym (inside-left spot)) here.is_item; few = omega arith },
@@ -187,7 +187,7 @@ signer_clear earlier spot signer signers whole rest room is joined =
     let within = lt-ltb (length earlier) MOST_SIGNERS (omega (arith, room.few)) in
     record {
       no_fault = rw (
-        no_part-stands spot SEQUENCE (concat (signer_parts is.parts)) whole rest sequence,
+        no_part-stands kinds.Der kinds.Shape spot SEQUENCE (concat (signer_parts is.parts)) whole rest sequence,
         rule_from_holds (nat_lt (length earlier) MOST_SIGNERS) (kinds.TooMany MOST_SIGNERS) spot within,
         parts.0,
       ) refl;
@@ -207,7 +207,7 @@ signers_clear spot signers whole rest are joined =
     let each = clear_each signer_fault IsSigner signer_at Room signer_clear (length list.left) [] list signers (omega arith)
     (rw here.inside_is are.are_signers) room in
     record {
-      no_fault = rw (no_part-stands spot SET are.content whole rest here, each.0) refl;
+      no_fault = rw (no_part-stands kinds.Der kinds.Shape spot SET are.content whole rest here, each.0) refl;
       value_is = each.1;
       after_is = here.after_is;
       some = here.is_some;

@@ -1,12 +1,12 @@
 -- Types of content by their identifiers.
-use Rattle.std.proofs.Common.{◌≡◌, ℕ, true, false, Bor, List, refl}
 use Rattle.std.specs.Prelude.{bytes_eq}
 use Rattle.std.specs.List.{list_any}
+use Rattle.std.proofs.Common.{◌≡◌, ℕ, true, false, Bor, List, refl}
 use Rattle.std.proofs.lemmas.Bool.{both_ways}
+use Rattle.sz_der.proofs.Octets.{bytes_same}
 use Rattle.sz_cms.specs.Kind.{identifier_of, named}
 use Rattle.sz_cms.specs.View.{IsNamed, KindsAreApart}
 use Rattle.sz_cms.specs.declared.kind.Kind.TheVariants as kind
-use Rattle.sz_cms.proofs.Contents.{bytes_same}
 
 -- one without a name has not the identifier of one with a name
 has_no_name : (identifier : List ℕ) (other : Bor (List ℕ)) → list_any (bytes_eq identifier) named ≡ true → IsNamed (kind.Other other) →

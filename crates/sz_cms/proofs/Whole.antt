@@ -1,24 +1,25 @@
 -- A message as a whole: its bytes have no fault exactly where they are spelled as the relation says.
-use Rattle.std.proofs.Common.{◌≡◌, ◌≢◌, ℕ, inl, inr, false, List, [], ◌∷◌, ◌++◌, None, refl, sym, ap, subst, ◌∙◌, arith}
 use Rattle.std.specs.Prelude.{bytes_eq}
 use Rattle.std.specs.List.{concat}
+use Rattle.std.proofs.Common.{◌≡◌, ◌≢◌, ℕ, inl, inr, false, List, [], ◌∷◌, ◌++◌, None, refl, sym, ap, subst, ◌∙◌, arith}
 use Rattle.std.proofs.lemmas.Bool.{both_ways, cases_Bool}
 use Rattle.sz_der.specs.Der.{AreOctets, Der}
+use Rattle.sz_der.specs.Spots.{after, content_at, front, inside, Spot, whole_at}
 use Rattle.sz_der.specs.declared.tag.TheConstants.{CONTEXT_CONSTRUCTED, OBJECT_IDENTIFIER, SEQUENCE, SET}
+use Rattle.sz_der.proofs.Octets.{bytes_same, same_bytes}
+use Rattle.sz_der.proofs.Joined.{alone, and_then, Der_with, last}
+use Rattle.sz_der.proofs.Optional.{BeginsWithout, without_item}
+use Rattle.sz_der.proofs.Spots.{end_from_nothing, Found, found_part, inside-left, no_part-stands, nothing_left, parts_of_none, stands}
 use Rattle.sz_cms.specs.Message.{Holds, Info, InfoOf, IsChoicesField, IsSigned, Plain, Signed, SignedData, signed_parts, SignedParts}
 use Rattle.sz_cms.specs.MessageFault.{algorithms_spot, certs_spot, content_spot, crls_spot, crls_tag, info_fault, inner_fault, octets_fault, signed_fault, signed_parts_fault, signers_spot, type_at}
-use Rattle.sz_cms.specs.Parts.{after, content_at, front, inside, Spot, whole_at}
 use Rattle.sz_cms.specs.Places.{choices_at, content_field_at, info_at, inner_at, signed_from, signers_at}
 use Rattle.sz_cms.specs.declared.identifier.TheConstants.{ENVELOPED_DATA, SIGNED_DATA}
 use Rattle.sz_cms.specs.declared.info.TheConstants.{MOST_CERTS, MOST_CRLS}
-use Rattle.sz_cms.proofs.Contents.{bytes_same, same_bytes}
-use Rattle.sz_cms.proofs.Joined.{alone, and_then, Der_with, last}
-use Rattle.sz_cms.proofs.Optional.{BeginsWithout, without_item}
+use Rattle.sz_cms.specs.declared.fault.InfoKind.TheVariants as kinds
 use Rattle.sz_cms.proofs.Readings.{same_signed}
 use Rattle.sz_cms.proofs.SignedParts.{algorithms_clear, algorithms_from_none, choices_clear, choices_from_none, content_clear, content_from_none, octets_clear, octets_from_none}
 use Rattle.sz_cms.proofs.SignerLaws.{integer_clear, integer_from_none}
 use Rattle.sz_cms.proofs.SignerWhole.{signers_clear, signers_from_none}
-use Rattle.sz_cms.proofs.Spots.{end_from_nothing, Found, found_part, inside-left, no_part-stands, nothing_left, parts_of_none, stands}
 
 -- ---- SignedData
 
@@ -39,7 +40,7 @@ signed_from_none spot here n =
     let certs = choices_from_none MOST_CERTS CONTEXT_CONSTRUCTED (certs_spot first) content.1.after d.0 in
     let crls = choices_from_none MOST_CRLS crls_tag (crls_spot first) certs.after e.0 in
     let signers = signers_from_none (signers_spot first) crls.after f.0 in
-    let only = and_then (whole_at (signers_spot first)) signers.1.joined (nothing_left (after (signers_spot first)) g.0) in
+    let only = and_then (whole_at (signers_spot first)) signers.1.joined (nothing_left _ _ (after (signers_spot first)) g.0) in
     let fields = and_then certs.piece certs.joined (and_then crls.piece crls.joined only) in
     let middle = and_then (whole_at (content_spot first)) content.1.joined fields in
     let all = and_then (whole_at first) version.1.joined (and_then (whole_at (algorithms_spot first)) algorithms.1.joined middle) in
@@ -92,7 +93,7 @@ signed_parts_clear first signed bytes is left =
         certs.no_fault,
         crls.no_fault,
         signers.no_fault,
-        end_from_nothing (after (signers_spot first)) signers.after_is,
+        end_from_nothing kinds.Der kinds.Shape (after (signers_spot first)) signers.after_is,
       ) refl,
       same_signed (content_at (inside (content_spot first))) signed.kind (content_field_at (after (inside (content_spot first)))) signed.content
           (choices_at CONTEXT_CONSTRUCTED (certs_spot first)) signed.certs (choices_at crls_tag (crls_spot first)) signed.crls
@@ -108,8 +109,8 @@ signed_data_from_none type spot fits is n =
     let a = parts_of_none _ _ n in
     let b = parts_of_none _ _ a.1 in
     let c = parts_of_none _ _ b.1 in
-    let here = found_part SEQUENCE spot fits a.0 in
-    let only = last (whole_at spot) here.joined (nothing_left (after spot) c.0) in
+    let here = found_part _ _ SEQUENCE spot fits a.0 in
+    let only = last (whole_at spot) here.joined (nothing_left _ _ (after spot) c.0) in
     (is, subst (λ (x : List ℕ). IsSigned (signed_from (inside spot)) x) (sym only) (signed_from_none spot here b.0))
 
 -- types that are told apart by a test
@@ -154,9 +155,9 @@ signed_clear signed spot is =
     let here = stands spot SEQUENCE (concat (signed_parts is.parts)) spot.left [] is.is_sequence (alone spot.left refl) in
     let parts = signed_parts_clear (inside spot) signed spot.left is here.inside_is in (
       rw (
-        no_part-stands spot SEQUENCE (concat (signed_parts is.parts)) spot.left [] here,
+        no_part-stands kinds.Der kinds.Shape spot SEQUENCE (concat (signed_parts is.parts)) spot.left [] here,
         parts.0,
-        end_from_nothing (after spot) here.after_is,
+        end_from_nothing kinds.Der kinds.Shape (after spot) here.after_is,
       ) refl,
       parts.1,
     )
@@ -198,12 +199,12 @@ InfoOf_from_none bytes fits n =
     let d = parts_of_none _ _ c.1 in
     let e = parts_of_none _ _ d.1 in
     let f = parts_of_none _ _ e.1 in
-    let here = found_part SEQUENCE outer (rw (front-left bytes) fits) a.0 in
-    let identifier = found_part OBJECT_IDENTIFIER (inside outer) here.inside b.0 in
-    let field = found_part CONTEXT_CONSTRUCTED (after (inside outer)) identifier.after c.0 in
+    let here = found_part _ _ SEQUENCE outer (rw (front-left bytes) fits) a.0 in
+    let identifier = found_part _ _ OBJECT_IDENTIFIER (inside outer) here.inside b.0 in
+    let field = found_part _ _ CONTEXT_CONSTRUCTED (after (inside outer)) identifier.after c.0 in
     let inner = inside (after (inside outer)) in
-    let only = and_then (whole_at (after (inside outer))) field.joined (nothing_left (after (after (inside outer))) e.0) in
-    let whole = sym (front-left bytes) ∙ last (whole_at outer) here.joined (nothing_left (after outer) f.0) in
+    let only = and_then (whole_at (after (inside outer))) field.joined (nothing_left _ _ (after (after (inside outer))) e.0) in
+    let whole = sym (front-left bytes) ∙ last (whole_at outer) here.joined (nothing_left _ _ (after outer) f.0) in
     let item = Der_with (sym (inside-left outer) ∙ and_then (whole_at (inside outer)) identifier.joined only) here.is_item in
     record {
       type = type_at outer;
@@ -238,12 +239,12 @@ info_clear bytes info is =
     let clear = inner_clear info (type_at outer) inner holds in
     record {
       no_fault = rw (
-        no_part-stands outer SEQUENCE content bytes [] here,
-        no_part-stands (inside outer) OBJECT_IDENTIFIER is.type parts.identifier (concat (parts.field ∷ [])) identifier,
-        no_part-stands (after (inside outer)) CONTEXT_CONSTRUCTED is.inner parts.field [] field,
+        no_part-stands kinds.Der kinds.Shape outer SEQUENCE content bytes [] here,
+        no_part-stands kinds.Der kinds.Shape (inside outer) OBJECT_IDENTIFIER is.type parts.identifier (concat (parts.field ∷ [])) identifier,
+        no_part-stands kinds.Der kinds.Shape (after (inside outer)) CONTEXT_CONSTRUCTED is.inner parts.field [] field,
         clear.no_fault,
-        end_from_nothing (after (after (inside outer))) field.after_is,
-        end_from_nothing (after outer) here.after_is,
+        end_from_nothing kinds.Der kinds.Shape (after (after (inside outer))) field.after_is,
+        end_from_nothing kinds.Der kinds.Shape (after outer) here.after_is,
       ) refl;
       value_is = clear.value_is;
     }

@@ -1,8 +1,8 @@
 -- What is written of given values is one string.
 use Rattle.std.proofs.Common.{◌≡◌, ℕ, List, [], ◌∷◌, ◌++◌, drop, Option, Some, None, refl, sym, ap, ◌∙◌}
-use Rattle.sz_der.proofs.Apart.{one_string}
 use Rattle.sz_der.specs.Der.{Der}
-use Rattle.sz_cms.proofs.Joined.{Der_with}
+use Rattle.sz_der.proofs.Apart.{one_string}
+use Rattle.sz_der.proofs.Joined.{Der_with}
 use Rattle.sz_cms.specs.Message.{Algorithm, IsAlgorithm, IsContent, IsContentField, IsContentInfo, IsIssuerSerial}
 use Rattle.sz_cms.specs.Spelled.{AreWrittenAttributes, AreWrittenCerts, Carried, IsListsField, IsOneValued, IsSignedByOne, IsWrittenMessage, IsWrittenSigned, IsWrittenSigner}
 

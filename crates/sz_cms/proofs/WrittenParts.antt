@@ -1,18 +1,19 @@
 -- What written parts make, one after another.
-use Rattle.std.proofs.Common.{◌≡◌, ℕ, zero, suc, ◌+◌, inl, inr, ◌<◌, true, List, [], ◌∷◌, ◌++◌, length, get_or, take, drop, None, refl, sym, ap, ◌∙◌, append_assoc, arith}
 use Rattle.std.specs.Prelude.{◌==◌, map, slice_index}
 use Rattle.std.specs.List.{AllByRecursion, concat}
+use Rattle.std.proofs.Common.{◌≡◌, ℕ, zero, suc, ◌+◌, inl, inr, ◌<◌, true, List, [], ◌∷◌, ◌++◌, length, get_or, take, drop, None, refl, sym, ap, ◌∙◌, append_assoc, arith}
 use Rattle.std.proofs.lemmas.List.{append-nil}
 use Rattle.sha2.specs.Sha256.{sha256}
 use Rattle.sz_der.specs.Der.{Der}
 use Rattle.sz_der.specs.Integer.{IsInteger}
+use Rattle.sz_der.specs.Spots.{AreEach}
 use Rattle.sz_der.specs.declared.tag.TheConstants.{CONTEXT_CONSTRUCTED, OBJECT_IDENTIFIER, OCTET_STRING, SEQUENCE, SET}
-use Rattle.sz_cms.specs.Message.{AreWritten, HasAttributes, InfoOf, IsAlgorithm, IsAttribute, IsChoicesField, IsContent, IsContentInfo, IsItem, IsSigned, IsSigner, sequences_of, Signed, SignedData, Signer}
+use Rattle.sz_der.proofs.Joined.{Der_with}
+use Rattle.sz_cms.specs.Message.{HasAttributes, InfoOf, IsAlgorithm, IsAttribute, IsChoicesField, IsContent, IsContentInfo, IsItem, IsSigned, IsSigner, sequences_of, Signed, SignedData, Signer}
 use Rattle.sz_cms.specs.Spelled.{alone_of, by_hss_lms, by_sha256, content_of, IsListsField, IsOneValued, IsSignedByOne, IsWrittenSigned, IsWrittenSigner, signed_version}
 use Rattle.sz_cms.specs.Written.{AreAttributesOf, AreSequences, certs_signed, IsSequence, message_signed, written_signer}
 use Rattle.sz_cms.specs.declared.identifier.TheConstants.{CONTENT_TYPE, MESSAGE_DIGEST, SIGNED_DATA}
 use Rattle.sz_cms.specs.declared.info.TheConstants.{MOST_CERTS, MOST_CRLS}
-use Rattle.sz_cms.proofs.Joined.{Der_with}
 
 -- ---- parts, one after another
 
@@ -37,7 +38,7 @@ concat_more xs i d within =
 
 -- ---- fields of whole items
 
-one_by_one : (items : List (List ℕ)) → AllByRecursion IsSequence items → AreWritten (λ item bytes. (item ≡ bytes) × IsItem bytes) items (concat items)
+one_by_one : (items : List (List ℕ)) → AllByRecursion IsSequence items → AreEach (λ item bytes. (item ≡ bytes) × IsItem bytes) items (concat items)
 one_by_one [] each = refl
 one_by_one (item ∷ items) each = (item, concat items, (refl, (SEQUENCE, each.0.0, each.0.1)), refl, one_by_one items each.1)
 
@@ -157,7 +158,7 @@ signer_says issuer serial attributes signature bytes is kind content are =
 -- ---- signed data
 
 -- one value alone
-alone : {A : Type 0} (Is : A → List ℕ → Type 0) (value : A) (whole : List ℕ) → Is value whole → AreWritten Is (value ∷ []) whole
+alone : {A : Type 0} (Is : A → List ℕ → Type 0) (value : A) (whole : List ℕ) → Is value whole → AreEach Is (value ∷ []) whole
 alone Is value whole is = (whole, [], is, sym (append-nil whole), refl)
 
 pub message_says : (kind content signer bytes : List ℕ) (certs : List (List ℕ)) (whole : Signer) →

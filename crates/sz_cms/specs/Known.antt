@@ -1,7 +1,7 @@
 -- The values of known attributes, as far as they were read.
 use Rattle.std.specs.Prelude.{◌≡◌, ℕ, List, Option, Some, if◌then◌else◌, bytes_eq}
 use Rattle.std.specs.Option.{option_copied}
-use Rattle.sz_cms.specs.Parts.{content_at, Spot}
+use Rattle.sz_der.specs.Spots.{content_at, Spot}
 use Rattle.sz_cms.specs.Places.{value_among}
 use Rattle.sz_cms.specs.declared.identifier.TheConstants.{CONTENT_TYPE, MESSAGE_DIGEST}
 use Rattle.sz_cms.specs.declared.attributes.KnownValues.{KnownValues}

@@ -1,9 +1,7 @@
-pub mod Contents
 pub mod Kind
 pub mod Known
 pub mod Message
 pub mod MessageFault
-pub mod Parts
 pub mod Places
 pub mod Signature
 pub mod Spelled

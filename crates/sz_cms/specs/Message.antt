@@ -1,9 +1,10 @@
 -- A signed message, or a plain one, as a relation on whole strings: its parts in the standard's order, by DER
 -- (RFC 5652 sections 3 and 5).
-use Rattle.std.specs.Prelude.{◌≡◌, ◌≢◌, ◌⊎◌, ℕ, ◌+◌, ◌≤◌, ◌==◌, ◌&&◌, ◌||◌, Bool, List, [], ◌∷◌, ◌++◌, length, slice_index, filter, map, Option, Some, None, bytes_eq}
+use Rattle.std.specs.Prelude.{◌≡◌, ◌≢◌, ◌⊎◌, ℕ, ◌+◌, ◌≤◌, ◌==◌, ◌&&◌, ◌||◌, Bool, List, [], ◌∷◌, length, slice_index, filter, map, Option, Some, None, bytes_eq}
 use Rattle.std.specs.List.{concat}
 use Rattle.sz_der.specs.Der.{Der}
 use Rattle.sz_der.specs.Integer.{IsInteger}
+use Rattle.sz_der.specs.Spots.{AreEach}
 use Rattle.sz_der.specs.declared.tag.TheConstants.{CONTEXT_CONSTRUCTED, CONTEXT_PRIMITIVE, INTEGER, OBJECT_IDENTIFIER, OCTET_STRING, SEQUENCE, SET}
 use Rattle.sz_cms.specs.declared.identifier.TheConstants.{CONTENT_TYPE, ENVELOPED_DATA, HSS_LMS, MESSAGE_DIGEST, SHA_256, SIGNED_DATA}
 use Rattle.sz_cms.specs.declared.info.TheConstants.{MOST_CERTS, MOST_CRLS, MOST_SIGNERS}
@@ -52,12 +53,6 @@ IsItem bytes = (tag : ℕ) × (content : List ℕ) × Der tag content bytes
 -- an item with this tag, or nothing
 abbrev pub IsOptional : ℕ → List ℕ → Type 0
 IsOptional tag bytes = (bytes ≡ []) ⊎ ((content : List ℕ) × Der tag content bytes)
-
--- values written one after another
-abbrev pub AreWritten : {A : Type 0} → (A → List ℕ → Type 0) → List A → List ℕ → Type 0
-AreWritten Is [] bytes = bytes ≡ []
-AreWritten Is (value ∷ values) bytes =
-    (whole : List ℕ) × (rest : List ℕ) × Is value whole × (bytes ≡ whole ++ rest) × AreWritten Is values rest
 
 -- ---- a signer
 
@@ -128,7 +123,7 @@ HasOne type tag content attributes =
 pub record HasAttributes (tag : ℕ) (attributes : SignedAttributes) : Type 0 where
   pub each : List Attribute
   pub content : List ℕ
-  pub are_attributes : AreWritten IsAttribute each content
+  pub are_attributes : AreEach IsAttribute each content
   pub one_content_type : HasOne CONTENT_TYPE OBJECT_IDENTIFIER attributes.content_type each
   pub one_digest : HasOne MESSAGE_DIGEST OCTET_STRING attributes.digest each
   pub is_set : Der tag content attributes.whole
@@ -179,7 +174,7 @@ pub record IsSigner (signer : Signer) (bytes : List ℕ) : Type 0 where
 pub record AreAlgorithms (bytes : List ℕ) : Type 0 where
   pub algorithms : List Algorithm
   pub content : List ℕ
-  pub are_algorithms : AreWritten IsAlgorithm algorithms content
+  pub are_algorithms : AreEach IsAlgorithm algorithms content
   pub is_set : Der SET content bytes
 
 -- `[0]` and an OCTET STRING
@@ -208,7 +203,7 @@ sequences_of items = filter (λ item. slice_index item 0 == SEQUENCE) items
 -- items one after another, of which the SEQUENCEs are kept, at most so many; others are other choices (10.2.1, 10.2.2)
 pub record AreChoices (most : ℕ) (kept : List (List ℕ)) (content : List ℕ) : Type 0 where
   pub items : List (List ℕ)
-  pub are_items : AreWritten (λ item bytes. (item ≡ bytes) × IsItem bytes) items content
+  pub are_items : AreEach (λ item bytes. (item ≡ bytes) × IsItem bytes) items content
   pub sequences : kept ≡ sequences_of items
   pub few : length kept ≤ most
 
@@ -220,7 +215,7 @@ IsChoicesField most tag kept bytes =
 -- SET OF SignerInfo (5.1), at most so many
 pub record AreSigners (signers : List Signer) (bytes : List ℕ) : Type 0 where
   pub content : List ℕ
-  pub are_signers : AreWritten IsSigner signers content
+  pub are_signers : AreEach IsSigner signers content
   pub is_set : Der SET content bytes
   pub few : length signers ≤ MOST_SIGNERS
 

@@ -2,10 +2,9 @@
 -- header before its content, in the order of the bytes.
 use Rattle.std.specs.Prelude.{ℕ, ◌+◌, ◌&&◌, ◌||◌, ◌==◌, not, nat_lt, map, if◌then◌else◌, Bool, List, [], ◌∷◌, ◌++◌, length, Option, None, bytes_eq}
 use Rattle.std.specs.List.{list_any}
-use Rattle.sz_der.specs.declared.tag.TheConstants.{CONTEXT_CONSTRUCTED, CONTEXT_PRIMITIVE, INTEGER, OBJECT_IDENTIFIER, OCTET_STRING, SEQUENCE, SET}
-use Rattle.sz_cms.specs.Contents.{is_integer}
+use Rattle.sz_der.specs.Spots.{after, after_optional, content_at, first_of, front, if_left, if_next, inside, is_at_end, is_next, no_end, no_integer, no_item, no_part, rule, Spot, spots_from, tag_at, whole_at}
+use Rattle.sz_der.specs.declared.tag.TheConstants.{CONTEXT_CONSTRUCTED, CONTEXT_PRIMITIVE, OBJECT_IDENTIFIER, OCTET_STRING, SEQUENCE, SET}
 use Rattle.sz_cms.specs.Message.{sequences_of}
-use Rattle.sz_cms.specs.Parts.{after, after_optional, content_at, first_of, front, if_left, if_next, inside, is_at_end, is_next, no_end, no_item, no_part, rule, Spot, spots_from, tag_at, whole_at}
 use Rattle.sz_cms.specs.declared.fault.InfoKind.{InfoKind}
 use Rattle.sz_cms.specs.declared.fault.InfoKind.TheVariants as kind
 use Rattle.sz_cms.specs.declared.identifier.TheConstants.{CONTENT_TYPE, ENVELOPED_DATA, MESSAGE_DIGEST, SIGNED_DATA}
@@ -40,8 +39,8 @@ each_from fault spot = each_after fault [] (spots_from spot)
 -- ---- parts that stand in several places
 
 -- an INTEGER of any value
-unfoldable pub integer_fault : Spot → Option Fault
-integer_fault spot = first_of (part INTEGER spot ∷ rule (is_integer (content_at spot)) kind.Der spot ∷ [])
+abbrev pub integer_fault : Spot → Option Fault
+integer_fault spot = no_integer kind.Der kind.Shape spot
 
 -- the parameters of an algorithm, after its identifier
 abbrev pub parameters_spot : Spot → Spot

@@ -1,10 +1,10 @@
 -- What is kept of a message without fault, from the items at their places.
 use Rattle.std.specs.Prelude.{ℕ, ◌&&◌, if◌then◌else◌, List, [], map, Option, Some, None, bytes_eq, option_map, unwrap_or}
 use Rattle.std.specs.List.{find}
+use Rattle.sz_der.specs.Spots.{after, content_at, front, inside, is_at_end, is_next, Spot, spots_from, whole_at}
 use Rattle.sz_der.specs.declared.tag.TheConstants.{CONTEXT_CONSTRUCTED, CONTEXT_PRIMITIVE}
 use Rattle.sz_cms.specs.Message.{Algorithm, Identifier, IssuerSerial, KeyId, Info, is_hss_lms, is_sha256, Plain, Signed, SignedAttributes, SignedData, Signer}
 use Rattle.sz_cms.specs.MessageFault.{algorithm_spot, attributes_spot, certs_spot, content_spot, crls_spot, crls_tag, digest_spot, identifier_spot, parameters_spot, sequences_at, signature_spot, signers_spot, type_at, values_spot}
-use Rattle.sz_cms.specs.Parts.{after, content_at, front, inside, is_at_end, is_next, Spot, spots_from, whole_at}
 use Rattle.sz_cms.specs.declared.identifier.TheConstants.{CONTENT_TYPE, ENVELOPED_DATA, MESSAGE_DIGEST, SIGNED_DATA}
 
 -- ---- a signer

@@ -3,8 +3,6 @@ use Rattle.std.specs.Prelude.{◌≡◌, ℕ, List, ◌∷◌, map, Option, Some
 use Rattle.std.specs.Option.{option_copied}
 use Rattle.sz_cms.specs.Kind.{HasName, identifier_of, IsKindOf}
 use Rattle.sz_cms.specs.Message as message
-use Rattle.sz_cms.specs.MessageFault.{Fault}
-use Rattle.sz_cms.specs.declared.fault.InfoFault.{InfoFault}
 use Rattle.sz_cms.specs.declared.info.Info.{Info}
 use Rattle.sz_cms.specs.declared.info.Info.TheVariants as info
 use Rattle.sz_cms.specs.declared.info.Signed.{Signed}
@@ -61,10 +59,6 @@ KindsAreApart =
 abbrev pub kind_of : Info → Kind
 kind_of (info.Plain kind content) = kind
 kind_of (info.Signed signed) = signed.kind
-
--- a fault that is answered: its kind and its place
-abbrev pub at : InfoFault → Fault
-at fault = (fault.kind, fault.place)
 
 -- the first byte, where there is one, and the rest
 abbrev pub bytes_after : Option ℕ → List ℕ → List ℕ

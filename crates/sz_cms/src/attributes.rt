@@ -3,15 +3,15 @@
 ghost use Rattle.std.specs.Prelude.{◌≡◌, ◌&&◌, None, Some, OnOk, IfErr, IfNone, IfOk, IfSome, ◌⊎◌, List, [], ◌∷◌, ◌++◌};
 ghost use Rattle.std.specs.Option.{option_copied};
 ghost use Rattle.sz_der.specs.declared.tag.TheConstants.{CONTEXT_CONSTRUCTED};
+ghost use Rattle.sz_der.specs.Spots.{after, after_optional, at, content_at, IsItemAt, Spot, spot_of, spots_from};
 ghost use Rattle.sz_cms.specs.Known.{AreKnown, IsWith};
 ghost use Rattle.sz_cms.specs.MessageFault.{attribute_fault, attributes_fault, each_from, is_known, known_fault, one_fault, stands_among, values_fault};
-ghost use Rattle.sz_cms.specs.Parts.{after, after_optional, content_at, IsItemAt, Spot, spot_of, spots_from};
 ghost use Rattle.sz_cms.specs.Places.{attributes_at, known_at};
-ghost use Rattle.sz_cms.specs.View.{at, attributes_of};
+ghost use Rattle.sz_cms.specs.View.{attributes_of};
 
 use crate::identifier::{CONTENT_TYPE, MESSAGE_DIGEST};
-use crate::parts::{expect_end, fault_of, is_next, open_part, parts_of, take_item, take_part};
 use crate::{InfoFault, InfoKind, SignedAttributes};
+use sz_der::parts::{expect_end, is_next, open_part, part_fault, parts_of, take_item, take_part};
 use sz_der::tag::{CONTEXT_CONSTRUCTED, OBJECT_IDENTIFIER, OCTET_STRING, SEQUENCE, SET};
 use sz_der::{DerReader, Item};
 
@@ -81,12 +81,12 @@ fn take_attribute<'a>(
     ensures fault { IfErr result (λ fault. (earlier : List Spot) → AreKnown earlier known.entry
         → attribute_fault earlier (spot_of reader.old) ≡ Some (at fault)) }
 {
-    let mut parts = open_part(reader, SEQUENCE)?;
-    let identifier = take_part(&mut parts, OBJECT_IDENTIFIER)?;
+    let mut parts = open_part(reader, SEQUENCE, InfoKind::Shape)?;
+    let identifier = take_part(&mut parts, OBJECT_IDENTIFIER, InfoKind::Shape)?;
     if known.has(identifier.content) {
-        return Err(fault_of(&identifier, InfoKind::Attribute));
+        return Err(part_fault(&identifier, InfoKind::Attribute));
     }
-    let values = open_part(&mut parts, SET)?;
+    let values = open_part(&mut parts, SET, InfoKind::Shape)?;
     let more = known.with(identifier.content, &values)?;
     expect_end(&parts, InfoKind::Shape)?;
     Ok(more)
@@ -174,7 +174,7 @@ fn read_one<'a>(first: &DerReader<'a>, tag: u8) -> Result<&'a [u8], InfoFault>
         });
     }
     let mut values = *first;
-    let value = take_part(&mut values, tag)?;
+    let value = take_part(&mut values, tag, InfoKind::Shape)?;
     expect_end(&values, InfoKind::Attribute)?;
     Ok(value.content)
 }

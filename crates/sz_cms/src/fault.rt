@@ -1,5 +1,7 @@
 //! Why bytes are no message.
 
+use sz_der::{PartFault, PartKind};
+
 /// Why bytes are no message.
 #[derive(Clone, Copy, Debug, PartialEq, Eq)]
 pub enum InfoKind {
@@ -16,12 +18,13 @@ pub enum InfoKind {
     Attribute,
 }
 
-/// A fault, and where it is: the place of the item's tag, counted from 0, or the end of what holds an item that is
-/// missing.
-#[derive(Clone, Copy, Debug, PartialEq, Eq)]
-pub struct InfoFault {
-    /// What is wrong.
-    pub kind: InfoKind,
-    /// The place of the item's tag.
-    pub place: usize,
+impl PartKind for InfoKind {
+    ghost use Rattle.sz_cms.specs.declared.fault.InfoKind.TheVariants.{Der};
+
+    ghost BROKEN = { Der };
+
+    const BROKEN: InfoKind = InfoKind::Der;
 }
+
+/// A fault, and where it is.
+pub type InfoFault = PartFault<InfoKind>;

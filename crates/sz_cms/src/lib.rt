@@ -11,7 +11,6 @@ pub mod identifier;
 mod info;
 mod kind;
 mod laws;
-mod parts;
 mod reading;
 mod signer;
 mod signers;

@@ -3,20 +3,20 @@
 ghost use Rattle.std.specs.Prelude.{◌≡◌, ◌<◌, None, Some, OnOk, IfErr, IfOk, IsOkAnd, map};
 ghost use Rattle.std.specs.Option.{option_copied};
 ghost use Rattle.sz_der.specs.declared.tag.TheConstants.{CONTEXT_CONSTRUCTED};
+ghost use Rattle.sz_der.specs.Spots.{after, after_optional, at, content_at, inside, spot_of, spots_from};
 ghost use Rattle.sz_cms.specs.Message.{Info as Message, InfoOf};
 ghost use Rattle.sz_cms.specs.MessageFault.{algorithm_fault, algorithms_fault, choice_fault, choices_fault, content_fault, content_field_fault, each_from, info_fault, inner_fault, octets_fault, sequences_at, signed_fault, signed_parts_fault, signer_fault, signers_fault};
-ghost use Rattle.sz_cms.specs.Parts.{after, after_optional, content_at, inside, spot_of, spots_from};
 ghost use Rattle.sz_cms.specs.Places.{choices_at, content_field_at, info_at, inner_at, signed_from, signer_at, signers_at};
-ghost use Rattle.sz_cms.specs.View.{at, info_of, IsNamed, kind_of, signed_of, signer_of};
+ghost use Rattle.sz_cms.specs.View.{info_of, IsNamed, kind_of, signed_of, signer_of};
 
 use crate::identifier::{ENVELOPED_DATA, SIGNED_DATA};
-use crate::parts::{
-    expect_end, fault_of, is_next, open_part, parts_of, take_integer, take_item, take_part,
-};
 use crate::signers::{read_signer, take_algorithm};
 use crate::{Info, InfoFault, InfoKind, Kind, MOST_CERTS, MOST_CRLS, MOST_SIGNERS, Signed, Signer};
 use arrayvec::ArrayVec;
 use sz_der::DerReader;
+use sz_der::parts::{
+    expect_end, is_next, open_part, part_fault, parts_of, take_integer, take_item, take_part,
+};
 use sz_der::tag::{CONTEXT_CONSTRUCTED, OBJECT_IDENTIFIER, OCTET_STRING, SEQUENCE, SET};
 
 impl<'a> Info<'a> {
@@ -44,9 +44,9 @@ fn read_message<'a>(bytes: &'a [u8]) -> Result<Info<'a>, InfoFault>
     ensures fault { IfErr result (λ fault. info_fault bytes.entry.now ≡ Some (at fault)) }
 {
     let mut whole = DerReader::over(bytes);
-    let mut parts = open_part(&mut whole, SEQUENCE)?;
-    let identifier = take_part(&mut parts, OBJECT_IDENTIFIER)?;
-    let content = open_part(&mut parts, CONTEXT_CONSTRUCTED)?;
+    let mut parts = open_part(&mut whole, SEQUENCE, InfoKind::Shape)?;
+    let identifier = take_part(&mut parts, OBJECT_IDENTIFIER, InfoKind::Shape)?;
+    let content = open_part(&mut parts, CONTEXT_CONSTRUCTED, InfoKind::Shape)?;
     let info = read_inner(identifier.content, &content)?;
     expect_end(&parts, InfoKind::Shape)?;
     expect_end(&whole, InfoKind::Shape)?;
@@ -79,7 +79,7 @@ fn read_octets<'a>(first: &DerReader<'a>) -> Result<&'a [u8], InfoFault>
     ensures fault { IfErr result (λ fault. octets_fault (spot_of first.now) ≡ Some (at fault)) }
 {
     let mut parts = *first;
-    let octets = take_part(&mut parts, OCTET_STRING)?;
+    let octets = take_part(&mut parts, OCTET_STRING, InfoKind::Shape)?;
     expect_end(&parts, InfoKind::Shape)?;
     Ok(octets.content)
 }
@@ -92,7 +92,7 @@ fn read_signed<'a>(first: &DerReader<'a>) -> Result<Signed<'a>, InfoFault>
     ensures fault { IfErr result (λ fault. signed_fault (spot_of first.now) ≡ Some (at fault)) }
 {
     let mut parts = *first;
-    let data = open_part(&mut parts, SEQUENCE)?;
+    let data = open_part(&mut parts, SEQUENCE, InfoKind::Shape)?;
     let signed = read_signed_parts(&data)?;
     expect_end(&parts, InfoKind::Shape)?;
     Ok(signed)
@@ -106,7 +106,7 @@ fn read_signed_parts<'a>(first: &DerReader<'a>) -> Result<Signed<'a>, InfoFault>
     ensures fault { IfErr result (λ fault. signed_parts_fault (spot_of first.now) ≡ Some (at fault)) }
 {
     let mut parts = *first;
-    take_integer(&mut parts)?;
+    take_integer(&mut parts, InfoKind::Shape)?;
     take_algorithms(&mut parts)?;
     let (identifier, content) = take_encapsulated(&mut parts)?;
     let certs = take_choices::<MOST_CERTS>(&mut parts, CONTEXT_CONSTRUCTED)?;
@@ -128,7 +128,7 @@ fn take_algorithms(reader: &mut DerReader<'_>) -> Result<(), InfoFault>
     ensures next { OnOk result (spot_of reader.new ≡ after (spot_of reader.old)) }
     ensures fault { IfErr result (λ fault. algorithms_fault (spot_of reader.old) ≡ Some (at fault)) }
 {
-    let each = open_part(reader, SET)?;
+    let each = open_part(reader, SET, InfoKind::Shape)?;
     read_algorithms(&each)
 }
 
@@ -156,8 +156,8 @@ fn take_encapsulated<'a>(
     ensures next { OnOk result (spot_of reader.new ≡ after (spot_of reader.old)) }
     ensures fault { IfErr result (λ fault. content_fault (spot_of reader.old) ≡ Some (at fault)) }
 {
-    let mut parts = open_part(reader, SEQUENCE)?;
-    let identifier = take_part(&mut parts, OBJECT_IDENTIFIER)?;
+    let mut parts = open_part(reader, SEQUENCE, InfoKind::Shape)?;
+    let identifier = take_part(&mut parts, OBJECT_IDENTIFIER, InfoKind::Shape)?;
     let content = take_content(&mut parts)?;
     expect_end(&parts, InfoKind::Shape)?;
     Ok((identifier.content, content))
@@ -212,7 +212,7 @@ fn read_choices<'a, const MOST: usize>(
         let item = take_item(&mut each)?;
         if item.tag == SEQUENCE {
             if kept.is_full() {
-                return Err(fault_of(&item, InfoKind::TooMany { limit: MOST as u8 }));
+                return Err(part_fault(&item, InfoKind::TooMany { limit: MOST as u8 }));
             }
             kept.push(item.whole);
         }
@@ -229,7 +229,7 @@ fn take_signers<'a>(
     ensures next { OnOk result (spot_of reader.new ≡ after (spot_of reader.old)) }
     ensures fault { IfErr result (λ fault. signers_fault (spot_of reader.old) ≡ Some (at fault)) }
 {
-    let each = open_part(reader, SET)?;
+    let each = open_part(reader, SET, InfoKind::Shape)?;
     read_signers(&each)
 }
 
@@ -243,9 +243,9 @@ fn read_signers<'a>(first: &DerReader<'a>) -> Result<ArrayVec<Signer<'a>, MOST_S
     let mut each = *first;
     let mut signers = ArrayVec::new();
     while !each.is_at_end() {
-        let item = take_part(&mut each, SEQUENCE)?;
+        let item = take_part(&mut each, SEQUENCE, InfoKind::Shape)?;
         if signers.is_full() {
-            return Err(fault_of(
+            return Err(part_fault(
                 &item,
                 InfoKind::TooMany {
                     limit: MOST_SIGNERS as u8,

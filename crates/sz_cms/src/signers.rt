@@ -1,17 +1,17 @@
 //! The reader of a signer: its identifier, its two algorithms, and its signature.
 
 ghost use Rattle.std.specs.Prelude.{◌≡◌, ◌&&◌, None, Some, OnOk, IfErr, IfOk};
+ghost use Rattle.sz_der.specs.Spots.{after, after_optional, at, spot_of};
 ghost use Rattle.sz_cms.specs.Message.{is_hss_lms, is_sha256};
 ghost use Rattle.sz_cms.specs.MessageFault.{algorithm_fault, identifier_fault, issuer_serial_fault, parameters_fault, signer_parts_fault, unsigned_fault, unsigned_tag};
-ghost use Rattle.sz_cms.specs.Parts.{after, after_optional, spot_of};
 ghost use Rattle.sz_cms.specs.Places.{algorithm_at, identifier_at, issuer_serial_at, parameters_at, signer_from};
-ghost use Rattle.sz_cms.specs.View.{algorithm_of, at, names_of, signer_of};
+ghost use Rattle.sz_cms.specs.View.{algorithm_of, names_of, signer_of};
 
 use crate::attributes::take_attributes;
 use crate::identifier::{HSS_LMS, SHA_256};
-use crate::parts::{expect_end, is_next, open_part, take_integer, take_item, take_part};
 use crate::{Identifier, InfoFault, InfoKind, Signer};
 use sz_der::DerReader;
+use sz_der::parts::{expect_end, is_next, open_part, take_integer, take_item, take_part};
 use sz_der::tag::{
     CONTEXT_CONSTRUCTED, CONTEXT_PRIMITIVE, OBJECT_IDENTIFIER, OCTET_STRING, SEQUENCE,
 };
@@ -23,12 +23,12 @@ pub(crate) fn read_signer<'a>(first: &DerReader<'a>) -> Result<Signer<'a>, InfoF
     ensures fault { IfErr result (λ fault. signer_parts_fault (spot_of first.now) ≡ Some (at fault)) }
 {
     let mut parts = *first;
-    take_integer(&mut parts)?;
+    take_integer(&mut parts, InfoKind::Shape)?;
     let identifier = take_identifier(&mut parts)?;
     let digest = take_algorithm(&mut parts)?;
     let attributes = take_attributes(&mut parts)?;
     let scheme = take_algorithm(&mut parts)?;
-    let signature = take_part(&mut parts, OCTET_STRING)?;
+    let signature = take_part(&mut parts, OCTET_STRING, InfoKind::Shape)?;
     skip_unsigned(&mut parts)?;
     expect_end(&parts, InfoKind::Shape)?;
     Ok(Signer {
@@ -60,9 +60,9 @@ fn take_issuer_serial<'a>(reader: &mut DerReader<'a>) -> Result<Identifier<'a>, 
     ensures next { OnOk result (spot_of reader.new ≡ after (spot_of reader.old)) }
     ensures fault { IfErr result (λ fault. issuer_serial_fault (spot_of reader.old) ≡ Some (at fault)) }
 {
-    let mut parts = open_part(reader, SEQUENCE)?;
-    let issuer = take_part(&mut parts, SEQUENCE)?;
-    let serial = take_integer(&mut parts)?;
+    let mut parts = open_part(reader, SEQUENCE, InfoKind::Shape)?;
+    let issuer = take_part(&mut parts, SEQUENCE, InfoKind::Shape)?;
+    let serial = take_integer(&mut parts, InfoKind::Shape)?;
     expect_end(&parts, InfoKind::Shape)?;
     Ok(Identifier::IssuerSerial {
         issuer: issuer.whole,
@@ -121,8 +121,8 @@ pub(crate) fn take_algorithm<'a>(reader: &mut DerReader<'a>) -> Result<Algorithm
     ensures next { OnOk result (spot_of reader.new ≡ after (spot_of reader.old)) }
     ensures fault { IfErr result (λ fault. algorithm_fault (spot_of reader.old) ≡ Some (at fault)) }
 {
-    let mut parts = open_part(reader, SEQUENCE)?;
-    let identifier = take_part(&mut parts, OBJECT_IDENTIFIER)?;
+    let mut parts = open_part(reader, SEQUENCE, InfoKind::Shape)?;
+    let identifier = take_part(&mut parts, OBJECT_IDENTIFIER, InfoKind::Shape)?;
     let parameters = read_parameters(&parts)?;
     Ok(Algorithm {
         identifier: identifier.content,

@@ -1,10 +1,16 @@
 pub mod Apart
 pub mod Bits
 pub mod Front
+pub mod IntegerTest
+pub mod Joined
 pub mod Lists
 pub mod Moments
+pub mod Nested
 pub mod Numbers
 pub mod Octets
-pub mod Parts
+pub mod Optional
 pub mod Places
+pub mod SpotLists
+pub mod Spots
+pub mod Steps
 pub mod Values

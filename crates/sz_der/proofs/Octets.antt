@@ -1,5 +1,7 @@
--- Octets by place and by recursion.
-use Rattle.std.proofs.Common.{ℕ, zero, suc, ◌+◌, ◌<◌, List, [], ◌∷◌, get_or, take, drop, get_or-drop}
+-- Octets by place and by recursion, and the test that two strings are alike.
+use Rattle.std.specs.Prelude.{bytes_eq}
+use Rattle.std.proofs.Common.{◌≡◌, ℕ, zero, suc, ◌+◌, ◌<◌, true, List, [], ◌∷◌, get_or, take, drop, get_or-drop}
+use Rattle.std.proofs.lemmas.Slice.Eq.{bytes_eq-Decides}
 use Rattle.sz_der.specs.Der.{AreOctets}
 
 abbrev pub IsBytes : List ℕ → Type 0
@@ -16,3 +18,9 @@ pub AreOctets-take : (n : ℕ) (octets : List ℕ) → AreOctets octets → AreO
 AreOctets-take zero octets fits = tt
 AreOctets-take (suc n) [] fits = tt
 AreOctets-take (suc n) (octet ∷ octets) fits = (fits.0, AreOctets-take n octets fits.1)
+
+pub same_bytes : (bytes other : List ℕ) → bytes_eq bytes other ≡ true → bytes ≡ other
+same_bytes bytes other = (bytes_eq-Decides bytes other).0
+
+pub bytes_same : (bytes other : List ℕ) → bytes ≡ other → bytes_eq bytes other ≡ true
+bytes_same bytes other = (bytes_eq-Decides bytes other).1

@@ -5,4 +5,5 @@ pub mod Integer
 pub mod Items
 pub mod Nested
 pub mod Reader
+pub mod Spots
 pub mod Time

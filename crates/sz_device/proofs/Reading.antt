@@ -12,7 +12,6 @@ use Rattle.sz_device.specs.AuditRan.{ending_of, is_well}
 use Rattle.sz_device.specs.Looked.{IsNoDevice, OfDevice}
 use Rattle.sz_device.specs.StateFailure.{failure_from}
 use Rattle.sz_disk.specs.Disk.{IsLawful, Seen}
-use Rattle.sz_record.specs.Stored.{HasWidths}
 use Rattle.sz_record.specs.declared.device.Device.{Device}
 use Rattle.sz_state.specs.Held.{IsHeld}
 use Rattle.sz_state.specs.Layout.{HasLayout}
@@ -33,11 +32,11 @@ refused old new state.OutOfMemory layout found = layout
 refused old new (state.TooLarge size) layout found = absurd found
 
 -- what holds of the device that was found holds of the one as which the disk reads
-pub of_device : OneReading → (old new : Seen) (held : Held) (P : Device → Type 0) → IsLawful new → IsHeld new held → HasWidths held.device
+pub of_device : OneReading → (old new : Seen) (held : Held) (P : Device → Type 0) → IsLawful new → IsHeld new held
     → new.reads ≡ old.reads → P held.device → OfDevice old P
-of_device reading old new held P lawful is wide same has = record {
+of_device reading old new held P lawful is same has = record {
   some = held-reads old new held P lawful is same has;
-  each = λ device sequence reads. subst P (held-before reading old new held device sequence lawful is wide same reads).0 has;
+  each = λ device sequence reads. subst P (held-before reading old new held device sequence lawful is same reads).0 has;
 }
 
 -- ---- what is authorised is well

@@ -23,9 +23,9 @@ pub record OnboardSeen (D : Type 0) : Type 0 where
   pub beside : Beside
 
 module _ {D : Type 0} (seen : D → Seen) (words : Words) (before after : OnboardSeen D) where
-  -- some SOURCE is none, or there are too many, and nothing was done
+  -- some SOURCE is none or reads the disk's file, or there are too many, and nothing was done
   pub record IsNoSources (answer : Answer) : Type 0 where
-    pub none : NamesNone words.sources
+    pub none : NamesNone words.disk words.sources
     pub answer_is : answer ≡ Err Usage
     pub nothing : after ≡ before
 
@@ -37,7 +37,7 @@ module _ {D : Type 0} (seen : D → Seen) (words : Words) (before after : Onboar
   -- each SOURCE is one, but there is no disk under the word, and nothing was done
   pub record IsNoDisk (answer : Answer) : Type 0 where
     pub sources : List Source
-    pub named : NamesSources words.sources sources
+    pub named : NamesSources words.disk words.sources sources
     pub none : disk_under before.disks words.disk ≡ None
     pub answer_is : answer ≡ Err (NoFile words.disk)
     pub nothing : after ≡ before
@@ -45,7 +45,7 @@ module _ {D : Type 0} (seen : D → Seen) (words : Words) (before after : Onboar
   -- there is one, and its device was booted over the sources, or not; the other disks stay
   pub record IsRunOn (answer : Answer) : Type 0 where
     pub sources : List Source
-    pub named : NamesSources words.sources sources
+    pub named : NamesSources words.disk words.sources sources
     pub old : D
     pub new : D
     pub on : ChangesDisk words.disk before.disks after.disks old new

@@ -7,7 +7,6 @@ ghost use Rattle.sz_agent.specs.Life.{IsBoot};
 ghost use Rattle.sz_agent.specs.declared.report.Report.{Report};
 ghost use Rattle.sz_audit.specs.Audit.{AllAuthorised, Audits};
 ghost use Rattle.sz_audit.specs.declared.found.Audit.{Audit as SomeAudit};
-ghost use Rattle.sz_base.specs.Serial.{IsSerial};
 ghost use Rattle.sz_base.specs.declared.identity.Identity.{Identity};
 ghost use Rattle.sz_commands.specs.Failure.{Failure};
 ghost use Rattle.sz_commands.specs.declared.ending.Ending.TheVariants.{Done};
@@ -17,7 +16,6 @@ ghost use Rattle.sz_device.specs.DeviceMade.{DeviceMade};
 ghost use Rattle.sz_device.specs.Looked.{Looks};
 ghost use Rattle.sz_device.specs.ShowRan.{Shows};
 ghost use Rattle.sz_device.specs.ShowText.{show_text};
-ghost use Rattle.sz_record.specs.Stored.{HasWidths};
 ghost use Rattle.sz_record.specs.declared.device.Device.{Device};
 ghost use Rattle.sz_source.specs.declared.source.Source.{Source};
 ghost use Rattle.sz_state.specs.Stands.{Stands};
@@ -53,7 +51,7 @@ pub fn an_undisturbed_onboard_is_complete<D: Disk>()
 /// the device as it is made.
 pub fn an_init_begins_the_life_of_its_disk<D: Disk>()
     ensures { (identity : Identity) (old new : D) (serial : List ℕ) → DeviceMade D.seen identity old new (Ok serial)
-        → IsTrue (is_some (D.seen new).reads) → IsSerial identity.serial
+        → IsTrue (is_some (D.seen new).reads)
         → StandsForEither (D.seen new) (factory identity) (factory identity) }
 {}
 
@@ -61,7 +59,7 @@ pub fn an_init_begins_the_life_of_its_disk<D: Disk>()
 pub fn a_disk_shows_the_device_that_it_stands_for<D: Disk>()
     ensures { (old new : D) (bytes : List ℕ) (device : Device) (text : List ℕ)
         → Looks D.seen Shows old new (Ok text) → (D.seen old).reads ≡ Some bytes → Stands bytes device
-        → HasWidths device → text ≡ show_text device }
+        → text ≡ show_text device }
 {}
 
 /// A disk whose bytes stand for a lawful device is audited without a finding: all that is there is authorised, and the
@@ -69,7 +67,7 @@ pub fn a_disk_shows_the_device_that_it_stands_for<D: Disk>()
 pub fn a_lawful_device_is_authorised<D: Disk>()
     ensures { (old new : D) (bytes : List ℕ) (device : Device) (audit : SomeAudit)
         → Looks D.seen Audits old new (Ok audit) → (D.seen old).reads ≡ Some bytes → Stands bytes device
-        → HasWidths device → Lawful device → AllAuthorised audit × (ending_of audit ≡ Done) }
+        → Lawful device → AllAuthorised audit × (ending_of audit ≡ Done) }
 {
     lawful_devices_are_authorised();
 }

@@ -12,7 +12,7 @@ use sz_audit::Audit;
 use sz_base::Bytes;
 use sz_commands::Failure;
 use sz_disk::Disk;
-use sz_record::{device_widths, payloads_have_one_reading};
+use sz_record::payloads_have_one_reading;
 use sz_state::attach;
 
 /// The lines that show the device of the disk.
@@ -25,7 +25,6 @@ pub(crate) fn look_and_show<'a, D: Disk>(alloc: Global, disk: &mut D) -> Result<
         Ok(held) => held,
         Err(fault) => return Err(failure_from(fault)),
     };
-    device_widths(&held.device);
     match device_lines(alloc, &held.device) {
         Ok(lines) => Ok(lines),
         Err(_) => Err(Failure::OutOfMemory),

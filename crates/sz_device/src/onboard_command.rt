@@ -49,7 +49,7 @@ pub fn onboard<'a, D: Disk, F: Folder, N: Net, C: Clock, E: Entropy>(
         (entropy_seen (E.faults entropy.new) (E.bytes entropy.new))))
         (answer_of result) }
 {
-    let sources = match read_sources(alloc, words.sources.as_slice()) {
+    let sources = match read_sources(alloc, &words.disk, words.sources.as_slice()) {
         Ok(sources) => sources,
         Err(BaseFault::Form) => return Err(Failure::Usage),
         Err(BaseFault::OutOfMemory) => return Err(Failure::OutOfMemory),

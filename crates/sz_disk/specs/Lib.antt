@@ -1,3 +1,4 @@
+pub mod Between
 pub mod Choice
 pub mod Disk
 pub mod Disks

@@ -3,6 +3,7 @@ ghost use Rattle.std.specs.Prelude.{◌≡◌, ◌+◌, ◌≤◌, length, IfOk,
 ghost use Rattle.std.specs.Option.{option_map};
 ghost use Rattle.sz_spec.specs.Cause.{HasCause};
 ghost use Rattle.sz_disk.specs.Image.{patched};
+ghost use Rattle.sz_disk.specs.Between.{PoweredUp};
 ghost use Rattle.sz_disk.specs.Disk.{ReadsPart, IsQuiet, IsSynced, IsStill, StaysUnsynced, WroteIn};
 ghost use Rattle.sz_disk.specs.Event.{Leaves};
 ghost use Rattle.sz_disk.specs.Laws.{lawful_after};
@@ -76,6 +77,7 @@ impl MemoryDisk {
         ensures picked { IsPickedOf (view self) (view result).bytes }
         ensures left { Leaves (view self).bytes (view self).events (view result).bytes }
         ensures fresh { view result ≡ powered_up (view self) (view result).bytes }
+        ensures powered { PoweredUp (seen_of (view self)) (seen_of (view self)) (seen_of (view result)) }
     {
         let mut disk = self;
         let choice = disk.plan.choice();

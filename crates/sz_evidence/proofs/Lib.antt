@@ -6,3 +6,4 @@ pub mod OneJudgement
 pub mod Steps
 pub mod Members
 pub mod OneIdentity
+pub mod EveryJudgement

@@ -1,9 +1,11 @@
--- An identity file is read as one identity, and is then not refused.
-use Rattle.std.proofs.Common.{◌≡◌, inl, inr, ℕ, List, Ok, refl, sym, ◌∙◌, subst}
+-- An identity file is read as one identity or refused by one name, and never as nothing.
+use Rattle.std.proofs.Common.{◌≡◌, inl, inr, ℕ, List, [], ◌∷◌, Result, Ok, Err, refl, sym, ap, ◌∙◌, subst}
 use Rattle.serde_json.specs.Data.{Data, Items}
 use Rattle.sz_base.specs.declared.identity.Identity.{Identity}
+use Rattle.sz_json.specs.Json.{IsJson}
 use Rattle.sz_json.specs.declared.name.Name.{Name}
-use Rattle.sz_evidence.specs.IdentityFile.{AreAnchors, FirstMissing, HasAnchors, HasText, IdentityOf, IsBadIdentity, IsIdentity, members}
+use Rattle.sz_json.specs.declared.name.Name.TheVariants as name
+use Rattle.sz_evidence.specs.IdentityFile.{AreAnchors, FirstMissing, HasAnchors, HasText, IdentityOf, IsBadIdentity, IsIdentity, members, ReadsAs}
 use Rattle.sz_evidence.proofs.Members.{one_list}
 use Rattle.sz_evidence.proofs.OneValue.{one_value}
 
@@ -48,3 +50,70 @@ not_bad bytes identity found is (inl bad) = bad.0 is.0 is.1
 not_bad bytes identity found is (inr (value, is_value, missing)) =
     let e = one_value bytes value is.0 is_value is.1 in
     none_missing is.0 identity found is.2 (subst (λ (one : Data). FirstMissing (members one) found) e missing)
+
+one_missing : (list : List (Name × Type 0)) (found other : Name) → FirstMissing list found → FirstMissing list other → found ≡ other
+one_missing [] found other is same = absurd is
+one_missing (member ∷ rest) found other (inl is) (inl same) = is.1 ∙ sym same.1
+one_missing (member ∷ rest) found other (inl is) (inr same) = absurd (is.0 same.0)
+one_missing (member ∷ rest) found other (inr is) (inl same) = absurd (same.0 is.0)
+one_missing (member ∷ rest) found other (inr is) (inr same) = one_missing rest found other is.1 same.1
+
+one_bad : (bytes : List ℕ) (found other : Name) → IsBadIdentity bytes found → IsBadIdentity bytes other → found ≡ other
+one_bad bytes found other (inl is) (inl same) = is.1 ∙ sym same.1
+one_bad bytes found other (inl is) (inr (value, is_value, missing)) = absurd (is.0 value is_value)
+one_bad bytes found other (inr (value, is_value, missing)) (inl same) = absurd (same.0 value is_value)
+one_bad bytes found other (inr (value, is_value, missing)) (inr (values, are_values, others)) =
+    let e = one_value bytes values value are_values is_value in
+    one_missing (members value) found other missing (subst (λ (one : Data). FirstMissing (members one) other) e others)
+
+pub one_reading : (bytes : List ℕ) (answer other : Result Identity Name) → ReadsAs bytes answer → ReadsAs bytes other → answer ≡ other
+one_reading bytes (Ok identity) (Ok other) is same = ap Ok (one_identity bytes identity other is same)
+one_reading bytes (Ok identity) (Err found) is bad = absurd (not_bad bytes identity found is bad)
+one_reading bytes (Err found) (Ok identity) bad is = absurd (not_bad bytes identity found is bad)
+one_reading bytes (Err found) (Err other) is same = ap Err (one_bad bytes found other is same)
+
+-- ---- some reading
+
+module _ (bytes : List ℕ) (none : (answer : Result Identity Name) → ReadsAs bytes answer → ⊥) where
+  module _ (value : Data) (is : IsJson bytes value) where
+    bad : (found : Name) → FirstMissing (members value) found → ⊥
+    bad found missing = none (Err found) (inr (value, is, missing))
+
+    read_value : ⊥
+    read_value =
+        bad name.Serial (inl (
+          λ serial. bad name.OsName (inr (
+            serial,
+            inl (
+              λ os_name. bad name.OsVersion (inr (
+                serial,
+                inr (
+                  os_name,
+                  inl (
+                    λ os_version. bad name.Anchors (inr (
+                      serial,
+                      inr (
+                        os_name,
+                        inr (
+                          os_version,
+                          inl (
+                            λ anchors. none
+                                (Ok (record { serial = serial.0; anchors = anchors.0; os_name = os_name.0; os_version = os_version.0 }))
+                                (value, is, record { serial = serial.1; os_name = os_name.1; os_version = os_version.1; anchors = anchors.1 }),
+                            refl,
+                          ),
+                        ),
+                      ),
+                    )),
+                    refl,
+                  ),
+                ),
+              )),
+              refl,
+            ),
+          )),
+          refl,
+        ))
+
+  pub some_reading : ⊥
+  some_reading = none (Err name.Json) (inl (λ value is. read_value value is, refl))

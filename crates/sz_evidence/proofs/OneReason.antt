@@ -42,9 +42,9 @@ other_kind_one info found other is same = same_Some found other (sym is ∙ same
 unsigned_voucher_one : (identity : Identity) (when : Moment) (ov : Option (List ℕ)) → GivesOne (UnsignedVoucher identity when ov)
 unsigned_voucher_one identity when ov found other is same =
     let e = one_voucher_message ov same.signed is.signed same.is_message is.is_message in
-    let refused = subst (λ (signed : Signed). IsUnsignedFor signed signed.certs identity.anchors None when.time.0 same.fault) e same.refused in
-    let f = one_fault is.signed is.signed.certs identity.anchors None when.time.0 is.fault same.fault is.refused refused in
-    is.gives ∙ ap (λ (fault : ChainFault). reason.NoChain artifact.Voucher fault) f ∙ sym same.gives
+    let refused = subst (λ (signed : Signed). IsUnsignedFor signed signed.certs identity.anchors None when.time.0 same.refuses.0) e same.refuses.1 in
+    let f = one_fault is.signed is.signed.certs identity.anchors None when.time.0 is.refuses.0 same.refuses.0 is.refuses.1 refused in
+    is.refuses.2 ∙ ap (λ (fault : ChainFault). reason.NoChain artifact.Voucher fault) f ∙ sym same.refuses.2
 
 voucher_at_fault_one : (identity : Identity) (when : Moment) (ov : Option (List ℕ)) → GivesOne (VoucherAtFault identity when ov)
 voucher_at_fault_one identity when ov found other is same =
@@ -54,9 +54,9 @@ voucher_at_fault_one identity when ov found other is same =
 unfit_one : (identity : Identity) (when : Moment) (ov : Option (List ℕ)) → GivesOne (UnfitVoucher identity when ov)
 unfit_one identity when ov found other is same =
     let e = one_has_voucher ov identity when is.voucher same.voucher is.has_voucher same.has_voucher in
-    let both : Err is.fault ≡ Err same.fault = sym is.unfit ∙ ap (λ (v : Voucher). judgement v identity.serial when) e ∙ same.unfit in
-    let f : is.fault ≡ same.fault = cc in
-    is.gives ∙ ap voucher_reason f ∙ sym same.gives
+    let both : Err is.unfit.0 ≡ Err same.unfit.0 = sym is.unfit.1 ∙ ap (λ (v : Voucher). judgement v identity.serial when) e ∙ same.unfit.1 in
+    let f : is.unfit.0 ≡ same.unfit.0 = cc in
+    is.unfit.2 ∙ ap voucher_reason f ∙ sym same.unfit.2
 
 voucher_one : (identity : Identity) (when : Moment) (ov : Option (List ℕ)) → EachGivesOne (voucher_rules identity when ov)
 voucher_one identity when ov = (
@@ -69,7 +69,7 @@ voucher_one identity when ov = (
         unsigned_voucher_one identity when ov,
         (
           voucher_at_fault_one identity when ov,
-          (unfit_one identity when ov, (λ found other is same. is.gives ∙ sym same.gives, tt)),
+          (unfit_one identity when ov, (λ found other is same. is.pins_none.1 ∙ sym same.pins_none.1, tt)),
         ),
       ),
     ),
@@ -84,8 +84,8 @@ unsigned_information_one : (identity : Identity) (when : Moment) (evidence : Evi
 unsigned_information_one identity when evidence signed found other is same =
     let refused = refused_here identity when evidence signed is.voucher is.owner is.has_voucher is.is_owner other same in
     let f = one_fault signed (signed.certs ++ certs_where is.owner) (is.voucher.pinned ∷ []) (asked is.voucher.revocation (signed.crls ++ crls_where is.owner))
-    when.time.0 is.fault same.fault is.refused refused in
-    is.gives ∙ ap (λ (fault : ChainFault). reason.NoChain artifact.Conveyed fault) f ∙ sym same.gives
+    when.time.0 is.refuses.0 same.refuses.0 is.refuses.1 refused in
+    is.refuses.2 ∙ ap (λ (fault : ChainFault). reason.NoChain artifact.Conveyed fault) f ∙ sym same.refuses.2
 
 information_at_fault_one : (identity : Identity) (when : Moment) (evidence : Evidence) (signed : Signed) →
     GivesOne (InformationAtFault identity when evidence signed)

@@ -58,8 +58,8 @@ pub is_signed_voucher : (identity : Identity) (when : Moment) (ov : Option (List
     Applies (UnsignedVoucher identity when ov) → ⊥
 is_signed_voucher identity when ov content is (found, refused) =
     let e = one_voucher_message ov refused.signed is.signed refused.is_message is.is_message in
-    not_both is.signed is.signed.certs identity.anchors None when.time.0 refused.fault content
-    (subst (λ (signed : Signed). IsUnsignedFor signed signed.certs identity.anchors None when.time.0 refused.fault) e refused.refused) is.signed_by
+    not_both is.signed is.signed.certs identity.anchors None when.time.0 refused.refuses.0 content
+    (subst (λ (signed : Signed). IsUnsignedFor signed signed.certs identity.anchors None when.time.0 refused.refuses.0) e refused.refuses.1) is.signed_by
 
 pub has_members : (identity : Identity) (when : Moment) (ov : Option (List ℕ)) (voucher : Voucher) → HasVoucher ov identity when voucher →
     Applies (VoucherAtFault identity when ov) → ⊥
@@ -72,15 +72,15 @@ pub is_fit : (identity : Identity) (when : Moment) (ov : Option (List ℕ)) (vou
     VouchesFor voucher identity.serial when → Applies (UnfitVoucher identity when ov) → ⊥
 is_fit identity when ov voucher is fits (found, refused) =
     let e = one_has_voucher ov identity when refused.voucher voucher refused.has_voucher is in
-    let apart : Ok tt ≡ Err refused.fault = sym (fitting voucher identity.serial when fits) ∙ ap (λ (v : Voucher). judgement v identity.serial when) (sym e)
-    ∙ refused.unfit in
+    let apart : Ok tt ≡ Err refused.unfit.0 = sym (fitting voucher identity.serial when fits) ∙ ap (λ (v : Voucher). judgement v identity.serial when) (sym e)
+    ∙ refused.unfit.1 in
     cc
 
 pub does_pin : (identity : Identity) (when : Moment) (ov : Option (List ℕ)) (voucher : Voucher) (cert : Certificate) →
     HasVoucher ov identity when voucher → CertOf voucher.pinned cert → Applies (PinsNone identity when ov) → ⊥
 does_pin identity when ov voucher cert is pins (found, refused) =
     let e = one_has_voucher ov identity when voucher refused.voucher is refused.has_voucher in
-    refused.no_cert cert (subst (λ (v : Voucher). CertOf v.pinned cert) e pins)
+    refused.pins_none.0 cert (subst (λ (v : Voucher). CertOf v.pinned cert) e pins)
 
 pub right_voucher : (identity : Identity) (when : Moment) (ov : Option (List ℕ)) (voucher : Voucher) → VoucherOk ov identity when voucher →
     NoneApplies (voucher_rules identity when ov)
@@ -130,14 +130,14 @@ module _ (identity : Identity) (when : Moment) (evidence : Evidence) (signed : S
     (has_voucher : HasVoucher evidence.ov identity when voucher) (is_owner : IsOwner evidence.oc owner) where
   pub refused_here : (found : Reason) (refused : UnsignedInformation identity when evidence signed found) →
       IsUnsignedFor signed (signed.certs ++ certs_where owner) (voucher.pinned ∷ []) (asked voucher.revocation (signed.crls ++ crls_where owner)) when.time.0
-      refused.fault
+      refused.refuses.0
   refused_here found refused =
       let e = one_has_voucher evidence.ov identity when refused.voucher voucher refused.has_voucher has_voucher in
       let f = one_owner evidence.oc refused.owner owner refused.is_owner is_owner in
       let by_voucher = subst (λ (v : Voucher). IsUnsignedFor signed (signed.certs ++ certs_where refused.owner) (v.pinned ∷ [])
-      (asked v.revocation (signed.crls ++ crls_where refused.owner)) when.time.0 refused.fault) e refused.refused in
+      (asked v.revocation (signed.crls ++ crls_where refused.owner)) when.time.0 refused.refuses.0) e refused.refuses.1 in
       subst (λ (o : Option Signed). IsUnsignedFor signed (signed.certs ++ certs_where o) (voucher.pinned ∷ [])
-      (asked voucher.revocation (signed.crls ++ crls_where o)) when.time.0 refused.fault) f by_voucher
+      (asked voucher.revocation (signed.crls ++ crls_where o)) when.time.0 refused.refuses.0) f by_voucher
 
   pub signed_here : (other : Voucher) (other_owner : Option Signed) (content : List ℕ) → HasVoucher evidence.ov identity when other →
       IsOwner evidence.oc other_owner → IsSignedInformation signed other_owner other when content → IsSignedInformation signed owner voucher when content
@@ -151,7 +151,7 @@ module _ (identity : Identity) (when : Moment) (evidence : Evidence) (signed : S
       Applies (UnsignedInformation identity when evidence signed) → ⊥
   is_signed_information content by (found, refused) =
       not_both signed (signed.certs ++ certs_where owner) (voucher.pinned ∷ []) (asked voucher.revocation (signed.crls ++ crls_where owner)) when.time.0
-      refused.fault content (refused_here found refused) by
+      refused.refuses.0 content (refused_here found refused) by
 
   has_parts : (content : List ℕ) (information : Conveyed) → IsSignedInformation signed owner voucher when content → ConveyedOf content information →
       Applies (InformationAtFault identity when evidence signed) → ⊥

@@ -30,8 +30,8 @@ use Rattle.sz_artifacts.specs.Voucher.{voucher_fault, VoucherOf}
 use Rattle.sz_artifacts.specs.declared.voucher.Voucher.{Voucher}
 use Rattle.sz_x509.specs.Certificate.{Certificate, CertOf}
 use Rattle.sz_evidence.specs.Authorised.{Authenticated, HasVoucher, IsInformation, IsOwner, IsSignedInformation, IsSignedVoucher, IsVoucherMessage, VoucherOk}
-use Rattle.sz_evidence.specs.Judgement.{Applies, AtFault, First, information_rules, IsRefusedFor, IsVoucherInfo, kind_in, PlainOnboarding, owner_rules, PinsNone, plain_rules, Rule, rules_of, UnfitVoucher, VoucherAtFault, voucher_rules}
-use Rattle.sz_evidence.specs.View.{IsReason, IsUnfit, json_refusal, message_rules, PinsNoCertificate, RefusesInformation, RefusesVoucher}
+use Rattle.sz_evidence.specs.Judgement.{Applies, AtFault, First, information_rules, IsRefusedFor, IsVoucherInfo, IsUnfit, kind_in, message_rules, owner_rules, PinsNoCertificate, PinsNone, plain_rules, PlainOnboarding, RefusesInformation, RefusesVoucher, Rule, rules_of, UnfitVoucher, VoucherAtFault, voucher_rules}
+use Rattle.sz_evidence.specs.View.{IsReason, json_refusal}
 use Rattle.sz_evidence.specs.declared.judgement.Refusal.{Refusal}
 use Rattle.sz_evidence.specs.declared.judgement.Refusal.TheVariants as refusal
 use Rattle.sz_evidence.specs.declared.reason.Artifact.TheVariants as artifact
@@ -98,14 +98,14 @@ after_four identity when ov =
 
 module _ (identity : Identity) (when : Moment) (ov : Option (List ℕ)) (signed : Signed) (is : IsVoucherMessage ov signed) where
   pub voucher_unsigned : (found : Reason) → RefusesVoucher signed identity when.time found → First (voucher_rules identity when ov) found
-  voucher_unsigned found (fault, refused, gives) =
+  voucher_unsigned found refuses =
       inr (
         is_there ov is.bytes is.is_there,
         inr (
           reads_where artifact.Voucher ov is.bytes (SignedData signed) is.is_there is.is_signed_data,
           inr (
             is_right_message ov signed is,
-            inl (record { signed = signed; fault = fault; is_message = is; refused = refused; gives = gives }),
+            inl (record { signed = signed; is_message = is; refuses = refuses }),
           ),
         ),
       )
@@ -132,20 +132,20 @@ module _ (identity : Identity) (when : Moment) (ov : Option (List ℕ)) (signed 
       has = record { content = content; is_signed = is_signed; is_voucher = of }
 
       pub voucher_unfit : (found : Reason) → IsUnfit voucher identity when found → First (voucher_rules identity when ov) found
-      voucher_unfit found (fault, unfit, gives) =
+      voucher_unfit found unfit =
           after_signature found (inr (
             has_members identity when ov voucher has,
-            inl (record { voucher = voucher; fault = fault; has_voucher = has; unfit = unfit; gives = gives }),
+            inl (record { voucher = voucher; has_voucher = has; unfit = unfit }),
           ))
 
       pub voucher_pins_none : (found : Reason) → VouchesFor voucher identity.serial when → PinsNoCertificate voucher found →
           First (voucher_rules identity when ov) found
-      voucher_pins_none found fits (no_cert, gives) =
+      voucher_pins_none found fits pins_none =
           after_signature found (inr (
             has_members identity when ov voucher has,
             inr (
               is_fit identity when ov voucher has fits,
-              inl (record { voucher = voucher; has_voucher = has; no_cert = no_cert; gives = gives }),
+              inl (record { voucher = voucher; has_voucher = has; pins_none = pins_none }),
             ),
           ))
 
@@ -239,15 +239,13 @@ module _ (identity : Identity) (when : Moment) (evidence : Evidence) where
             (right_owner evidence.oc owner is_owner) first)
 
         pub refused_unsigned : (found : Reason) → RefusesInformation signed owner voucher when found → IsRefusedFor identity when evidence found
-        refused_unsigned found (fault, refused, gives) =
+        refused_unsigned found refuses =
             after_owner found (inl (record {
               voucher = voucher;
               owner = owner;
-              fault = fault;
               has_voucher = ok.has_voucher;
               is_owner = is_owner;
-              refused = refused;
-              gives = gives;
+              refuses = refuses;
             }))
 
         pub refused_information : (content : List ℕ) (found : Reason) → IsSignedInformation signed owner voucher when content →

@@ -1,10 +1,11 @@
 -- When evidence authorises a device to be bootstrapped with onboarding information (RFC 8366 section 5, RFC 8572
 -- section 5.4).
-use Rattle.std.specs.Prelude.{◌≡◌, ◌⊎◌, ℕ, ⊤, Bool, true, false, List, [], ◌∷◌, ◌++◌, Option, Some, None}
+use Rattle.std.specs.Prelude.{◌≡◌, ◌⊎◌, ℕ, ⊤, Bool, true, false, List, [], ◌∷◌, ◌++◌, Option, Some, None, IfSome}
 use Rattle.sz_base.specs.declared.evidence.Evidence.{Evidence}
 use Rattle.sz_base.specs.declared.identity.Identity.{Identity}
 use Rattle.sz_base.specs.declared.moment.Moment.{Moment}
 use Rattle.sz_chain.specs.SignedBy.{SignedBy}
+use Rattle.sz_der.specs.Der.{AreOctets}
 use Rattle.sz_cms.specs.Message.{InfoOf, Signed, SignedData}
 use Rattle.sz_cms.specs.declared.identifier.TheConstants.{CONVEYED_JSON, DATA, VOUCHER}
 use Rattle.sz_artifacts.specs.Conveyed.{ConveyedOf}
@@ -90,6 +91,12 @@ IsSignedInformation signed owner voucher when content =
     (asked voucher.revocation (signed.crls ++ crls_where owner)) when.time.0 content
 
 -- ---- all of it
+
+-- the artifacts are lists of bytes
+pub record AreBytes (evidence : Evidence) : Type 0 where
+  pub ci : AreOctets evidence.ci
+  pub oc : IfSome evidence.oc AreOctets
+  pub ov : IfSome evidence.ov AreOctets
 
 -- the evidence is this conveyed information, whose owner the device's maker vouches for
 pub record Authenticated (identity : Identity) (when : Moment) (evidence : Evidence) (information : Conveyed)

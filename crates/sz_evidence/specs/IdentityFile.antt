@@ -1,5 +1,5 @@
 -- The file of an identity as a JSON value: what a device is made with, and the first member that breaks its rule.
-use Rattle.std.specs.Prelude.{◌≡◌, ◌⊎◌, ℕ, ◌≤◌, ⊤, List, [], ◌∷◌, length, Some, Ok}
+use Rattle.std.specs.Prelude.{◌≡◌, ◌⊎◌, ℕ, ◌≤◌, ⊤, List, [], ◌∷◌, length, Some, Result, Ok, Err}
 use Rattle.serde_json.specs.Data.{Data, Items, no_items, item}
 use Rattle.sz_base.specs.Encoding.{IsBase64}
 use Rattle.sz_base.specs.Identity.{most_anchor_bytes, most_anchors, most_os_bytes}
@@ -86,6 +86,11 @@ abbrev pub IsBadIdentity : List ℕ → Name → Type 0
 IsBadIdentity bytes found =
     (((value : Data) → ¬ (IsJson bytes value)) × (found ≡ name.Json))
     ⊎ ((value : Data) × IsJson bytes value × FirstMissing (members value) found)
+
+-- what the bytes are read as: an identity, or the name that is answered of them
+abbrev pub ReadsAs : List ℕ → Result Identity Name → Type 0
+ReadsAs bytes (Ok identity) = IdentityOf bytes identity
+ReadsAs bytes (Err found) = IsBadIdentity bytes found
 
 -- ---- answers
 

@@ -5,6 +5,7 @@ use Rattle.serde_json.specs.Data.{Data}
 use Rattle.sz_base.specs.declared.evidence.Evidence.{Evidence}
 use Rattle.sz_base.specs.declared.identity.Identity.{Identity}
 use Rattle.sz_base.specs.declared.moment.Moment.{Moment}
+use Rattle.sz_base.specs.declared.moment.Seconds.{Seconds}
 use Rattle.sz_base.specs.declared.target.Target.{Target}
 use Rattle.sz_chain.specs.SignedBy.{IsUnsignedFor}
 use Rattle.sz_chain.specs.declared.fault.ChainFault.{ChainFault}
@@ -122,13 +123,16 @@ OtherVoucher ov found =
     ((bytes : List ℕ) × (info : Info) × (ov ≡ Some bytes) × InfoOf bytes info × (IsVoucherInfo info → ⊥))
     × (found ≡ reason.BadCms artifact.Voucher)
 
--- it is not signed under the identity's anchors
+-- of a message of a voucher: it is not signed under the identity's anchors
+abbrev pub RefusesVoucher : Signed → Identity → Seconds → Rule
+RefusesVoucher signed identity when found =
+    (fault : ChainFault) × IsUnsignedFor signed signed.certs identity.anchors None when.0 fault
+    × (found ≡ reason.NoChain artifact.Voucher fault)
+
 pub record UnsignedVoucher (identity : Identity) (when : Moment) (ov : Option (List ℕ)) (found : Reason) : Type 0 where
   pub signed : Signed
-  pub fault : ChainFault
   pub is_message : IsVoucherMessage ov signed
-  pub refused : IsUnsignedFor signed signed.certs identity.anchors None when.time.0 fault
-  pub gives : found ≡ reason.NoChain artifact.Voucher fault
+  pub refuses : RefusesVoucher signed identity when.time found
 
 -- it has a member at fault
 pub record VoucherAtFault (identity : Identity) (when : Moment) (ov : Option (List ℕ)) (found : Reason) : Type 0 where
@@ -136,27 +140,34 @@ pub record VoucherAtFault (identity : Identity) (when : Moment) (ov : Option (Li
   pub is_signed : IsSignedVoucher ov identity when content
   pub at_fault : AtFault voucher_fault content found
 
--- it is for another device or another moment
+-- of a voucher: it is for another device or another moment
+abbrev pub IsUnfit : Voucher → Identity → Moment → Rule
+IsUnfit voucher identity when found =
+    (fault : VoucherFault) × (judgement voucher identity.serial when ≡ Err fault) × (found ≡ voucher_reason fault)
+
 pub record UnfitVoucher (identity : Identity) (when : Moment) (ov : Option (List ℕ)) (found : Reason) : Type 0 where
   pub voucher : Voucher
-  pub fault : VoucherFault
   pub has_voucher : HasVoucher ov identity when voucher
-  pub unfit : judgement voucher identity.serial when ≡ Err fault
-  pub gives : found ≡ voucher_reason fault
+  pub unfit : IsUnfit voucher identity when found
 
--- what it pins is no certificate
+-- of a voucher: what it pins is no certificate
+abbrev pub PinsNoCertificate : Voucher → Rule
+PinsNoCertificate voucher found =
+    ((cert : Certificate) → CertOf voucher.pinned cert → ⊥) × (found ≡ reason.Member name.PinnedDomainCert)
+
 pub record PinsNone (identity : Identity) (when : Moment) (ov : Option (List ℕ)) (found : Reason) : Type 0 where
   pub voucher : Voucher
   pub has_voucher : HasVoucher ov identity when voucher
-  pub no_cert : (cert : Certificate) → CertOf voucher.pinned cert → ⊥
-  pub gives : found ≡ reason.Member name.PinnedDomainCert
+  pub pins_none : PinsNoCertificate voucher found
+
+-- the rules of the voucher as a message
+abbrev pub message_rules : Option (List ℕ) → List Rule
+message_rules ov = NoVoucher ov ∷ UnreadableWhere artifact.Voucher ov ∷ OtherVoucher ov ∷ []
 
 abbrev pub voucher_rules : Identity → Moment → Option (List ℕ) → List Rule
 voucher_rules identity when ov =
-    NoVoucher ov
-    ∷ UnreadableWhere artifact.Voucher ov
-    ∷ OtherVoucher ov
-    ∷ UnsignedVoucher identity when ov
+    message_rules ov
+    ++ UnsignedVoucher identity when ov
     ∷ VoucherAtFault identity when ov
     ∷ UnfitVoucher identity when ov
     ∷ PinsNone identity when ov
@@ -175,17 +186,20 @@ owner_rules oc = UnreadableWhere artifact.Owner oc ∷ PlainOwner oc ∷ []
 
 -- ---- of signed information, whose voucher is right
 
--- it is not signed under the pinned certificate
+-- of a message: it is not signed under the certificate that the voucher pins
+abbrev pub RefusesInformation : Signed → Option Signed → Voucher → Moment → Rule
+RefusesInformation signed owner voucher when found =
+    (fault : ChainFault) × IsUnsignedFor signed (signed.certs ++ certs_where owner) (voucher.pinned ∷ [])
+    (asked voucher.revocation (signed.crls ++ crls_where owner)) when.time.0 fault
+    × (found ≡ reason.NoChain artifact.Conveyed fault)
+
 pub record UnsignedInformation (identity : Identity) (when : Moment) (evidence : Evidence) (signed : Signed)
     (found : Reason) : Type 0 where
   pub voucher : Voucher
   pub owner : Option Signed
-  pub fault : ChainFault
   pub has_voucher : HasVoucher evidence.ov identity when voucher
   pub is_owner : IsOwner evidence.oc owner
-  pub refused : IsUnsignedFor signed (signed.certs ++ certs_where owner) (voucher.pinned ∷ [])
-      (asked voucher.revocation (signed.crls ++ crls_where owner)) when.time.0 fault
-  pub gives : found ≡ reason.NoChain artifact.Conveyed fault
+  pub refuses : RefusesInformation signed owner voucher when found
 
 -- it has a member at fault
 pub record InformationAtFault (identity : Identity) (when : Moment) (evidence : Evidence) (signed : Signed)

@@ -4,8 +4,8 @@ ghost use Rattle.std.specs.Prelude.{◌≡◌, Ok, Err, IfOk, IfErr};
 ghost use Rattle.sz_base.specs.Identity.{IsWhole};
 ghost use Rattle.sz_cms.specs.View.{signed_of};
 ghost use Rattle.sz_evidence.specs.Authorised.{IsSignedInformation};
-ghost use Rattle.sz_evidence.specs.Judgement.{First, Judgement, plain_rules};
-ghost use Rattle.sz_evidence.specs.View.{IsPlainJudged, IsReason, owner_of, RefusesInformation};
+ghost use Rattle.sz_evidence.specs.Judgement.{First, Judgement, plain_rules, RefusesInformation};
+ghost use Rattle.sz_evidence.specs.View.{IsPlainJudged, IsReason, owner_of};
 
 use crate::messages::{check_kind, owner_certificate, read_message};
 use crate::strings::{bag_of, certs_of, crls_of, if_asked};

@@ -1,23 +1,26 @@
 //! Laws of the judgement and of identity files. Each is the contract of a function that does nothing.
 
-ghost use Rattle.std.specs.Prelude.{◌≡◌, ◌↔◌, ◌≤ℤ◌, List, ℕ, Result, Ok, IfSome};
+ghost use Rattle.std.specs.Prelude.{◌≡◌, ◌↔◌, ◌≤ℤ◌, List, ℕ, Result, Ok, Some, IfSome};
 ghost use Rattle.sz_base.specs.declared.evidence.Evidence.{Evidence};
 ghost use Rattle.sz_base.specs.declared.identity.Identity.{Identity};
 ghost use Rattle.sz_base.specs.declared.moment.Moment.{Moment};
 ghost use Rattle.sz_cms.specs.Message.{InfoOf, Plain};
 ghost use Rattle.sz_artifacts.specs.declared.conveyed.onboarding.Onboarding.{Onboarding};
-ghost use Rattle.sz_evidence.specs.Authorised.{Authorised, CarriesVoucher};
-ghost use Rattle.sz_evidence.specs.IdentityFile.{IdentityOf, IsBadIdentity};
+ghost use Rattle.sz_evidence.specs.Authorised.{AreBytes, Authorised, CarriesVoucher};
+ghost use Rattle.sz_evidence.specs.IdentityFile.{ReadsAs};
 ghost use Rattle.sz_evidence.specs.Judgement.{Judgement};
 ghost use Rattle.sz_evidence.specs.declared.judgement.Judged.{Judged};
 ghost use Rattle.sz_evidence.specs.declared.reason.Reason.{Reason};
 ghost use Rattle.sz_json.specs.declared.name.Name.{Name};
 ghost use Rattle.sz_artifacts.specs.declared.voucher.Voucher.{Voucher};
 
-/// The judgement is one answer.
+/// The judgement is one answer: evidence has no two judgements, and, where its artifacts are bytes, is never without one.
 pub fn judgements_are_single()
-    ensures { (identity : Identity) (when : Moment) (evidence : Evidence) (answer other : Result Judged Reason)
-        → Judgement identity when evidence answer → Judgement identity when evidence other → answer ≡ other }
+    ensures one_answer { (identity : Identity) (when : Moment) (evidence : Evidence)
+        (answer other : Result Judged Reason) → Judgement identity when evidence answer
+        → Judgement identity when evidence other → answer ≡ other }
+    ensures never_none { (identity : Identity) (when : Moment) (evidence : Evidence) → AreBytes evidence
+        → ¬ ((answer : Result Judged Reason) → ¬ (Judgement identity when evidence answer)) }
 {}
 
 /// The judgement is onboarding information exactly where this is authorised.
@@ -55,10 +58,16 @@ pub fn authorised_has_not_expired()
         → IfSome voucher.expires_on (λ end. when.time.0 ≤ℤ end.0) }
 {}
 
-/// A file is read as one identity, and none that is read is refused.
+/// Nothing is ever authorised by a voucher with a nonce at a moment that has another nonce or none.
+pub fn authorised_has_the_nonce()
+    ensures { (identity : Identity) (when : Moment) (evidence : Evidence) (onboarding : Onboarding)
+        (voucher : Voucher) → Authorised identity when evidence onboarding → CarriesVoucher evidence.ov voucher
+        → IfSome voucher.nonce (λ nonce. when.nonce ≡ Some nonce) }
+{}
+
+/// A file is read as one identity or refused by one name: it is never read as both or in two ways, and never as nothing.
 pub fn identities_are_single()
-    ensures one_identity { (bytes : List ℕ) (identity other : Identity) → IdentityOf bytes identity
-        → IdentityOf bytes other → identity ≡ other }
-    ensures not_both { (bytes : List ℕ) (identity : Identity) (name : Name) → IdentityOf bytes identity
-        → IsBadIdentity bytes name → ⊥ }
+    ensures one_answer { (bytes : List ℕ) (answer other : Result Identity Name) → ReadsAs bytes answer
+        → ReadsAs bytes other → answer ≡ other }
+    ensures never_none { (bytes : List ℕ) → ¬ ((answer : Result Identity Name) → ¬ (ReadsAs bytes answer)) }
 {}

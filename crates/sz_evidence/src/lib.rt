@@ -15,8 +15,8 @@ mod vouched;
 pub use identity::{IdentityFault, read_identity};
 pub use judgement::{Judged, Refusal, judge};
 pub use laws::{
-    authorised_has_not_expired, authorised_is_for_the_serial_number, evidence_authorises_one,
-    identities_are_single, judged_onboarding_is_authorised, judgements_are_single,
-    unsigned_is_not_authorised,
+    authorised_has_not_expired, authorised_has_the_nonce, authorised_is_for_the_serial_number,
+    evidence_authorises_one, identities_are_single, judged_onboarding_is_authorised,
+    judgements_are_single, unsigned_is_not_authorised,
 };
 pub use reason::{Artifact, Reason, What};

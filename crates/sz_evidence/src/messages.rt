@@ -2,10 +2,10 @@
 
 ghost use Rattle.std.specs.Prelude.{◌≡◌, IfOk, IfErr, OnOk};
 ghost use Rattle.sz_cms.specs.Message.{InfoOf};
-ghost use Rattle.sz_cms.specs.View.{at, info_of, IsNamed, kind_of, signed_of};
+ghost use Rattle.sz_cms.specs.View.{info_of, IsNamed, kind_of, signed_of};
 ghost use Rattle.sz_evidence.specs.Authorised.{IsInformation, IsOwner, IsVoucherMessage};
-ghost use Rattle.sz_evidence.specs.Judgement.{First, kind_in, message_reason, OtherKind, owner_rules, Unreadable};
-ghost use Rattle.sz_evidence.specs.View.{IsReason, message_rules, owner_of};
+ghost use Rattle.sz_evidence.specs.Judgement.{First, kind_in, message_reason, message_rules, OtherKind, owner_rules, Unreadable};
+ghost use Rattle.sz_evidence.specs.View.{IsReason, owner_of};
 
 use crate::{Artifact, Reason, Refusal, What};
 use sz_base::Bytes;
@@ -26,7 +26,7 @@ pub(crate) fn read_message<'a>(artifact: Artifact, bytes: &'a [u8]) -> Result<In
 
 // the reason that stands for a fault of an artifact
 fn reason_of(artifact: Artifact, fault: InfoFault) -> Reason
-    ensures { result ≡ message_reason artifact (at fault) }
+    ensures { result ≡ message_reason artifact (fault.kind, fault.place) }
 {
     match fault.kind {
         InfoKind::Der => Reason::BadDer {

@@ -5,8 +5,8 @@ ghost use Rattle.sz_base.specs.Identity.{IsWhole};
 ghost use Rattle.sz_chain.specs.SignedBy.{SignedBy};
 ghost use Rattle.sz_cms.specs.View.{signed_of};
 ghost use Rattle.sz_evidence.specs.Authorised.{VoucherOk};
-ghost use Rattle.sz_evidence.specs.Judgement.{First, voucher_reason, voucher_rules};
-ghost use Rattle.sz_evidence.specs.View.{IsReason, IsUnfit, PinsNoCertificate, RefusesVoucher};
+ghost use Rattle.sz_evidence.specs.Judgement.{First, IsUnfit, PinsNoCertificate, RefusesVoucher, voucher_reason, voucher_rules};
+ghost use Rattle.sz_evidence.specs.View.{IsReason};
 ghost use Rattle.sz_artifacts.specs.Vouching.{VouchesFor};
 ghost use Rattle.sz_x509.specs.Certificate.{Certificate, CertOf};
 

@@ -12,9 +12,10 @@ ghost use Rattle.sz_exchange.specs.Exchange.{AddsOne, IsAsking, Loses, MayAdd};
 use sz_base::{PutFault, Target};
 use sz_io::Net;
 
-/// Connects to the server and sends it the whole request, so that its answer can be received. `Failed` where the
-/// exchange is lost; a connection that stands after a refusal is the caller's to close.
-pub fn open<N: Net>(net: &mut N, target: &Target, request: &[u8]) -> Result<(), PutFault>
+/// Connects to the server and sends it the whole request, so that its answer can be received, of which the caller will
+/// take at most so many bytes. `Failed` where the exchange is lost; a connection that stands after a refusal is the
+/// caller's to close.
+pub fn open<N: Net>(net: &mut N, target: &Target, most: u64, request: &[u8]) -> Result<(), PutFault>
     ensures ok { OnOk result (WhereTold (IsAsking target.now request.now [] Open)
         (N.traffic net.old) (N.traffic net.new)) }
     ensures lost { IsErrOf result PutFault.Failed → WhereTold (AddsOne (Loses target.now request.now))
@@ -23,7 +24,7 @@ pub fn open<N: Net>(net: &mut N, target: &Target, request: &[u8]) -> Result<(), 
         (N.traffic net.old) (option_map after_close (N.traffic net.new)) }
     ensures cause { HasCause (N.faults net.old) (N.faults net.new) (put_failed result) }
 {
-    match net.connect(target) {
+    match net.connect(target, most) {
         Ok(()) => net.send(request),
         Err(fault) => Err(fault),
     }

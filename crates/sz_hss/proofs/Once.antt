@@ -1,14 +1,15 @@
 -- No leaf of a tree signs two byte strings where no leaf number signs two messages.
-use Rattle.std.proofs.Common.{◌≡◌, ◌⊎◌, ℕ, ◌+◌, ◌*◌, ◌/◌, ◌%◌, ◌^◌, ◌<◌, ◌≤◌, List, [], ◌∷◌, get_or, refl, sym, ap, ap₂, ◌∙◌, inl, inr, ⊎_elim, add_comm, arith, pow_pos, Contains, div-one}
+use Rattle.std.proofs.Common.{◌≡◌, ◌⊎◌, ℕ, ◌+◌, ◌*◌, ◌/◌, ◌%◌, ◌^◌, ◌<◌, ◌≤◌, List, [], ◌∷◌, ◌++◌, length, take, get_or, refl, sym, ap, ap₂, ◌∙◌, subst, inl, inr, ⊎_elim, add_comm, append_assoc, arith, pow_pos, zero-add, Contains, div-one}
 use Rattle.std.specs.List.{flat_map}
 use Rattle.std.proofs.lemmas.Bool.{cases_lt}
-use Rattle.std.proofs.lemmas.List.{get_or_default}
-use Rattle.std.proofs.lemmas.List.Elements.{Contains-append_cases, Contains-append_right, Contains-push_cases}
-use Rattle.std.proofs.lemmas.Nat.{shr-shr}
+use Rattle.std.proofs.lemmas.List.{get_or_default, length_push}
+use Rattle.std.proofs.lemmas.List.Elements.{All-contains, Contains-append_cases, Contains-append_right, Contains-push_cases}
+use Rattle.std.proofs.lemmas.Nat.{div_below, pow-add, shr-shr}
+use Rattle.std.proofs.Math.Seq.{take-append_seam}
 use Rattle.sz_lms_tree.specs.Tree.{TreeSecret, child_of, public_of}
 use Rattle.sz_hss.specs.Key.{Shape, HssKey}
-use Rattle.sz_hss.specs.Leaf.{child_at, heights_of, leaf_at, leaves_below, tree_at}
-use Rattle.sz_hss.specs.Used.{AreSound, IsSameLeaf, Release, Use, used, uses_from}
+use Rattle.sz_hss.specs.Leaf.{child_at, heights_of, leaf_at, leaf_count, leaves_below, tree_at}
+use Rattle.sz_hss.specs.Used.{AreSound, AreWithin, IsSameLeaf, Release, Use, tree_count, used, uses_from}
 
 -- ---- members of lists
 
@@ -142,3 +143,67 @@ signed-once key releases u other sound has has_other leaf =
     let one = one-release releases a b sound a_in b_in last.0 in
     last.1 ∙ ap (λ (r : Release). r.message) one ∙ sym last.2)
     (agree 0 key.top key.top key.below a.leaf b.leaf a.message b.message u other refl (λ _. refl) a_uses b_uses leaf)
+
+-- ---- which trees there are
+
+-- the heights of levels with one more above them
+heights-more : (above : List Shape) (shape : Shape) → heights_of (above ++ shape ∷ []) ≡ heights_of above + shape.height
+heights-more [] shape = omega arith
+heights-more (top ∷ above) shape = let rest = heights-more above shape in omega arith
+
+-- leaf numbers below the count go through as many trees as the levels above have leaves
+tree-below : (above below : List Shape) (height n : ℕ) → n < 2 ^ (heights_of above + (height + heights_of below))
+    → tree_at height below n < 2 ^ heights_of above
+tree-below above below height n lt =
+    let all : 2 ^ (heights_of above + (height + heights_of below)) ≡ 2 ^ heights_of above * 2 ^ (height + heights_of below) =
+    pow-add 2 (heights_of above) (height + heights_of below) in
+    let fits : n < 2 ^ heights_of above * 2 ^ (height + heights_of below) = subst (λ (m : ℕ). n < m) all lt in
+    subst (λ (m : ℕ). m < 2 ^ heights_of above) (sym (tree_at-is height below n))
+    (div_below n (2 ^ (height + heights_of below)) (2 ^ heights_of above) (pow_pos (height + heights_of below)) fits)
+
+-- the levels above one are those before it
+levels-above : (above rest : List Shape) (level : ℕ) → level ≡ length above → take level (above ++ rest) ≡ above
+levels-above above rest level is = ap (λ (k : ℕ). take k (above ++ rest)) is ∙ take-append_seam above rest
+
+own-use : (above rest below : List Shape) (height n : ℕ) (u : Use) → n < 2 ^ (heights_of above + (height + heights_of below))
+    → u.level ≡ length above → u.tree ≡ tree_at height below n → u.tree < 2 ^ heights_of (take u.level (above ++ rest))
+own-use above rest below height n u lt level tree =
+    let fits = tree-below above below height n lt in
+    let same : heights_of above ≡ heights_of (take u.level (above ++ rest)) = ap heights_of (sym (levels-above above rest u.level level)) in
+    subst (λ (h : ℕ). u.tree < 2 ^ h) same (subst (λ (m : ℕ). m < 2 ^ heights_of above) (sym tree) fits)
+
+-- of a tree below these levels
+uses-within : (above : List Shape) (secret : TreeSecret) (below : List Shape) (n : ℕ) (message : List ℕ) (u : Use)
+    → n < 2 ^ (heights_of above + (secret.height + heights_of below))
+    → Contains (uses_from (length above) secret below n message) u
+    → u.tree < 2 ^ heights_of (take u.level (above ++ record { height = secret.height; width = secret.width } ∷ below))
+unfolding uses_from
+uses-within above secret [] n message u lt has =
+    ⊎_elim
+    (λ here. own-use above _ [] secret.height n u lt (sym (ap (λ (w : Use). w.level) here)) (sym (ap (λ (w : Use). w.tree) here)))
+    (λ none. absurd (let lt : none.0 < 0 = none.1 in omega arith))
+    (cons-cases _ [] u has)
+uses-within above secret (shape ∷ below) n message u lt has =
+    let own : Shape = record { height = secret.height; width = secret.width } in
+    let child = child_at secret shape below n in
+    ⊎_elim
+    (λ here. own-use above _ (shape ∷ below) secret.height n u lt (sym (ap (λ (w : Use). w.level) here)) (sym (ap (λ (w : Use). w.tree) here)))
+    (λ later.
+    let more : length (above ++ own ∷ []) ≡ length above + 1 = length_push above own in
+    let heights : heights_of (above ++ own ∷ []) ≡ heights_of above + own.height = heights-more above own in
+    let same : heights_of above + (secret.height + heights_of (shape ∷ below)) ≡ heights_of (above ++ own ∷ []) + (child.height + heights_of below) =
+    omega (arith, heights) in
+    let fits = subst (λ (h : ℕ). n < 2 ^ h) same lt in
+    let there = subst (λ (k : ℕ). Contains (uses_from k child below n message) u) (sym more) later in
+    let within = uses-within (above ++ own ∷ []) child below n message u fits there in
+    subst (λ (shapes : List Shape). u.tree < 2 ^ heights_of (take u.level shapes)) (append_assoc above (own ∷ []) (shape ∷ below)) within)
+    (cons-cases _ (uses_from (length above + 1) child below n message) u has)
+
+pub tree-within : (key : HssKey) (releases : List Release) (u : Use) → AreWithin key releases → Contains (used key releases) u
+    → u.tree < tree_count key u.level
+tree-within key releases u within has =
+    let uses = λ (r : Release). uses_from 0 key.top key.below r.leaf r.message in
+    let (r, inside, uses_it) = Contains-flat_map uses releases u has in
+    let lt = All-contains (λ (release : Release). release.leaf < leaf_count key) releases r within inside in
+    let none_above = sym (zero-add (key.top.height + heights_of key.below)) in
+    uses-within [] key.top key.below r.leaf r.message u (subst (λ (h : ℕ). r.leaf < 2 ^ h) none_above lt) uses_it

@@ -1,8 +1,8 @@
 -- Which one-time keys sign what, when a key's leaf numbers sign messages.
-use Rattle.std.specs.Prelude.{◌≡◌, ◌≢◌, ℕ, ◌+◌, List, [], ◌∷◌, AllPairs, flat_map}
+use Rattle.std.specs.Prelude.{◌≡◌, ◌≢◌, ℕ, ◌+◌, ◌^◌, ◌<◌, List, [], ◌∷◌, All, AllPairs, flat_map, take}
 use Rattle.sz_lms_tree.specs.Tree.{TreeSecret, public_of}
-use Rattle.sz_hss.specs.Key.{Shape, HssKey}
-use Rattle.sz_hss.specs.Leaf.{child_at, leaf_at, tree_at}
+use Rattle.sz_hss.specs.Key.{Shape, HssKey, levels_of}
+use Rattle.sz_hss.specs.Leaf.{child_at, heights_of, leaf_at, leaf_count, tree_at}
 
 -- A use of a one-time key: the level from the top, the number of the tree in its level, its leaf, and what is signed.
 -- Trees are told apart by their numbers.
@@ -39,6 +39,14 @@ pub record Release : Type 0 where
 -- all uses of some releases
 abbrev pub used : HssKey → List Release → List Use
 used key releases = flat_map (λ release. uses_from 0 key.top key.below release.leaf release.message) releases
+
+-- the key has each of the leaf numbers
+abbrev pub AreWithin : HssKey → List Release → Type 0
+AreWithin key releases = All (λ release. release.leaf < leaf_count key) releases
+
+-- how many trees the key has on this level
+abbrev pub tree_count : HssKey → ℕ → ℕ
+tree_count key level = 2 ^ heights_of (take level (levels_of key))
 
 -- no leaf number occurs twice
 abbrev pub AreSound : List Release → Type 0

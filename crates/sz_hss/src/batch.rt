@@ -5,9 +5,9 @@ ghost use Rattle.sz_hss.specs.Signature.{last_of};
 
 use crate::trees::sign_last;
 use std::alloc::Global;
-use std::thread::{Threads, map_indices};
+use std::thread::{Threads, for_each_mut};
 use sz_base::{Bytes, OutOfMemory};
-use sz_lms_tree::{Gate, Part, Tree};
+use sz_lms_tree::{Gate, Part, Tree, most_jobs};
 
 // What came of an item of a batch.
 type Signed = Result<Bytes, OutOfMemory>;
@@ -27,8 +27,19 @@ fn sign_item<G: Gate>(
     sign_last(alloc, front, lowest, n, message)
 }
 
-/// Signs messages with leaf numbers from `n` on, all below one lowest tree, each by a thread of its own where one can
-/// be made.
+// So many items, none signed yet.
+fn unsigned(alloc: Global, count: usize) -> Result<Vec<Signed>, OutOfMemory>
+    ensures { IfOk result (λ all. vec_len all ≡ count) }
+{
+    let mut all = Vec::with_capacity(alloc, count)?;
+    'items: while all.len() < count {
+        all.push(Err(OutOfMemory))?;
+    }
+    Ok(all)
+}
+
+/// Signs messages with leaf numbers from `n` on, all below one lowest tree, in at most as many jobs as `most_jobs`
+/// gives: each job signs messages that follow one another.
 pub(crate) fn sign_run<R: Threads + Sync, G: Gate + Sync>(
     rt: &R,
     gate: &G,
@@ -44,21 +55,22 @@ pub(crate) fn sign_run<R: Threads + Sync, G: Gate + Sync>(
         → IfOk (slice_index_or all.items i d)
         (λ signature. signature ≡ front.now ++ last_of lowest.now (n + i) (slice_index_or messages.now i e))) }
 {
-    let all = map_indices(
+    let mut all = unsigned(alloc, messages.len())?;
+    for_each_mut(
         rt,
-        alloc,
-        messages.len(),
-        &|i| {
-            sign_item(
+        all.as_mut_slice(),
+        most_jobs(rt),
+        &|i, signed| {
+            *signed = sign_item(
                 gate,
                 alloc,
                 front,
                 lowest,
                 n + i as u64,
                 messages[i].as_slice(),
-            )
+            );
         },
-    )?;
+    );
     Ok(all)
 }
 

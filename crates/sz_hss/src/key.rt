@@ -38,6 +38,17 @@ impl Key {
         Key { levels, seed, id }
     }
 
+    /// The same key once more.
+    pub fn copy(&self) -> Key
+        ensures { result ≡ self.now }
+    {
+        Key {
+            levels: self.levels.copy(),
+            seed: self.seed,
+            id: self.id,
+        }
+    }
+
     /// The secret of the top tree.
     pub fn top(&self) -> Secret
         ensures secret { tree_secret result ≡ self.now.top }

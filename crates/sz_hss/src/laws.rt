@@ -1,6 +1,6 @@
 //! Laws of keys. Each is a theorem, which the function of its name carries; a call does nothing.
 
-ghost use Rattle.std.specs.Prelude.{◌≡◌, ℕ, List, Contains, None, Result};
+ghost use Rattle.std.specs.Prelude.{◌≡◌, ◌<◌, ℕ, List, Contains, None, Result};
 ghost use Rattle.sz_base.specs.Reading.{GivesUnlessMemory, ReadsValue};
 ghost use Rattle.sz_base.specs.declared.fault.BaseFault.{BaseFault};
 ghost use Rattle.sz_hss.specs.Key.{AreLevels, HssKey, IsKey, Shape};
@@ -8,7 +8,7 @@ ghost use Rattle.sz_hss.specs.LevelsText.{IsLevelsText, levels_text};
 ghost use Rattle.sz_hss.specs.Signature.{hss_public_of, hss_signature_of};
 ghost use Rattle.sz_hss.specs.Stored.{StoredKey, IsStoredKey};
 ghost use Rattle.sz_hss.specs.StoredFault.{first_wrong, stored_tests};
-ghost use Rattle.sz_hss.specs.Used.{AreSound, IsSameLeaf, Release, Use, used};
+ghost use Rattle.sz_hss.specs.Used.{AreSound, AreWithin, IsSameLeaf, Release, Use, tree_count, used};
 ghost use Rattle.sz_lms.specs.Hss.{HssOk};
 
 /// What a key signs with any leaf number verifies under its public key (RFC 8554 section 6.3).
@@ -18,9 +18,12 @@ pub fn signatures_verify()
 {}
 
 /// Where no leaf number signs twice, no leaf of any tree on any level signs two byte strings: an upper leaf signs the
-/// public key of its one child again and again, which is one.
+/// public key of its one child again and again, which is one. Where the key has all of the leaf numbers, each tree is
+/// one of those that it has on its level, and the top one is one.
 pub fn leaves_sign_once()
-    ensures { (key : HssKey) (releases : List Release) (u other : Use) → AreSound releases
+    ensures trees { (key : HssKey) (releases : List Release) (u : Use) → AreWithin key releases
+        → Contains (used key releases) u → u.tree < tree_count key u.level }
+    ensures once { (key : HssKey) (releases : List Release) (u other : Use) → AreSound releases
         → Contains (used key releases) u → Contains (used key releases) other → IsSameLeaf u other
         → u.signed ≡ other.signed }
 {}

@@ -16,9 +16,9 @@ use std::alloc::Global;
 use std::marker::Model;
 use std::thread::Threads;
 use sz_base::{Bytes, Messages, OutOfMemory, Signatures};
-use sz_lms_tree::{Gate, Secret, Tree, child};
+use sz_lms_tree::{Gate, Secret, Tree, child, public_of};
 
-/// A key with its top tree, and on each level below with the tree that was built last. Contracts see it as the key.
+/// A key, and on each level the tree that was built last, if any was. Contracts see it as the key.
 #[derive(Drop)]
 pub struct Trees {
     key: Key,
@@ -26,14 +26,11 @@ pub struct Trees {
 }
 
 impl Model for Trees {
-    ghost use Rattle.sz_hss.specs.Built.{IsTreeAt};
     ghost use Rattle.sz_hss.specs.Key.{HssKey};
 
     ghost Value = { HssKey };
 
     ghost view = { λ trees. trees.key };
-
-    ghost invariant = { λ trees. IsTreeAt trees.trees.items 0 trees.key.top };
 }
 
 // Makes the tree at a place that of the secret, unless it is already. Those before it stay, and any behind it is
@@ -79,9 +76,9 @@ fn append_pair(
     Ok(())
 }
 
-// Builds those trees that leaf number `n` goes through and that don't stand yet, from the top, and gives what stands
-// before the lowest tree's signature.
-fn prepare<R: Threads + Sync, G: Gate + Sync>(
+// Builds those trees below the top one that leaf number `n` goes through and that don't stand yet, from the top, and
+// gives what stands before the lowest tree's signature.
+fn prepare_below<R: Threads + Sync, G: Gate + Sync>(
     rt: &R,
     gate: &G,
     alloc: Global,
@@ -89,8 +86,7 @@ fn prepare<R: Threads + Sync, G: Gate + Sync>(
     trees: &mut Vec<Tree>,
     n: u64,
 ) -> Result<Vec<u8>, OutOfMemory>
-    requires top { IsTreeAt trees.old.items 0 key.now.top }
-    ensures top { IsTreeAt trees.new.items 0 key.now.top }
+    requires { IsTreeAt trees.old.items 0 key.now.top }
     ensures front { IfOk result (λ out. out.items ≡ front_of key.now n) }
     ensures lowest { OnOk result
         (IsTreeAt trees.new.items (length key.now.below) (lowest_at key.now.top key.now.below n)) }
@@ -109,6 +105,23 @@ fn prepare<R: Threads + Sync, G: Gate + Sync>(
         secret = next;
     }
     Ok(out)
+}
+
+// The same, with the top tree, which is built first unless it stands.
+fn prepare<R: Threads + Sync, G: Gate + Sync>(
+    rt: &R,
+    gate: &G,
+    alloc: Global,
+    key: &Key,
+    trees: &mut Vec<Tree>,
+    n: u64,
+) -> Result<Vec<u8>, OutOfMemory>
+    ensures front { IfOk result (λ out. out.items ≡ front_of key.now n) }
+    ensures lowest { OnOk result
+        (IsTreeAt trees.new.items (length key.now.below) (lowest_at key.now.top key.now.below n)) }
+{
+    stand(rt, gate, alloc, trees, 0, &key.top())?;
+    prepare_below(rt, gate, alloc, key, trees, n)
 }
 
 /// The signature of the message with leaf number `n`: the front, and what the lowest tree signs it with.
@@ -139,11 +152,9 @@ fn sign_more<R: Threads + Sync, G: Gate + Sync>(
     messages: &[Bytes],
     signatures: &mut Vec<Bytes>,
 ) -> Result<(), OutOfMemory>
-    requires top { IsTreeAt trees.old.items 0 key.now.top }
     requires left { vec_len signatures.old < length messages.now }
     requires room { first + length messages.now < 2 ^ 64 }
     requires so_far { AreSignatures key.now first (take (vec_len signatures.old) messages.now) signatures.old.items }
-    ensures top { IsTreeAt trees.new.items 0 key.now.top }
     ensures more { OnOk result (vec_len signatures.old < vec_len signatures.new) }
     ensures most { OnOk result (vec_len signatures.new ≤ length messages.now) }
     ensures so_far { OnOk result
@@ -169,10 +180,8 @@ fn sign_all<R: Threads + Sync, G: Gate + Sync>(
     first: u64,
     messages: &[Bytes],
 ) -> Result<Vec<Bytes>, OutOfMemory>
-    requires top { IsTreeAt trees.old.items 0 key.now.top }
     requires room { first + length messages.now < 2 ^ 64 }
-    ensures top { IsTreeAt trees.new.items 0 key.now.top }
-    ensures all { IfOk result (λ signatures. AreSignatures key.now first messages.now signatures.items) }
+    ensures { IfOk result (λ signatures. AreSignatures key.now first messages.now signatures.items) }
 {
     let mut signatures = Vec::with_capacity(alloc, messages.len())?;
     'runs: while signatures.len() < messages.len() {
@@ -191,6 +200,16 @@ fn sign_all<R: Threads + Sync, G: Gate + Sync>(
 }
 
 impl Trees {
+    /// The key, with no tree built. Takes no memory.
+    pub fn of(alloc: Global, key: Key) -> Trees
+        ensures { result ≡ key }
+    {
+        Trees {
+            key,
+            trees: Vec::new(alloc),
+        }
+    }
+
     /// The key with its top tree built.
     pub fn build<R: Threads + Sync, G: Gate + Sync>(
         rt: &R,
@@ -213,14 +232,25 @@ impl Trees {
         &self.key
     }
 
-    /// The HSS public key, 60 bytes (RFC 8554 section 6.1).
+    // The top tree's public key: that tree's where it stands, and else all its leaves are computed, one after another.
+    fn top_public(&self) -> [u8; 56]
+        ensures { result ≡ public_of self.now.top }
+    {
+        let top = self.key.top();
+        match self.trees.first() {
+            Some(tree) if tree.is_of(&top) => tree.public(),
+            _ => public_of(&top),
+        }
+    }
+
+    /// The HSS public key, 60 bytes (RFC 8554 section 6.1). Takes no memory, also where no tree was built.
     pub fn public(&self) -> [u8; 60]
         ensures { result ≡ hss_public_of self.now }
     {
         let mut public = [0; 60];
         let levels = self.key.levels().len() as u32;
         public[..4].copy_from_slice(&levels.to_be_bytes());
-        public[4..].copy_from_slice(&self.trees[0].public());
+        public[4..].copy_from_slice(&self.top_public());
         public
     }
 
@@ -245,8 +275,8 @@ impl Trees {
 
     /// What leaf numbers from `first` on sign the messages with, in order: of each message the bytes that `sign` gives.
     /// Leaf numbers count modulo the number of leaves.
-    /// Of the messages that go through one lowest tree each is signed by a thread of its own where one can be made, and
-    /// enters the gate as it begins; the trees are built in their order.
+    /// The messages that go through one lowest tree are shared out to at most as many jobs as `most_jobs` gives, and
+    /// each message enters the gate as it is begun; the trees are built in their order.
     pub fn sign_batch<R: Threads + Sync, G: Gate + Sync>(
         &mut self,
         rt: &R,

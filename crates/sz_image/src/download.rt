@@ -23,6 +23,9 @@ use sz_uri::Uri;
 /// How many bytes of the reply are asked for at a time.
 const PIECE: usize = 65536;
 
+// How many times as long as that of a reply with as many bytes an image's connection may last.
+const PATIENCE: u64 = 4;
+
 /// Downloads the image at this URI, in place of what the room holds, and answers its size in bytes. The image has the
 /// SHA-256 digest `hash`, or there is a fault: the first one that the bytes of the reply show, where at one byte a
 /// fault of the message comes before a status other than 200, and that before an image that doesn't fit the room.
@@ -89,7 +92,8 @@ fn exchange<N: Net, R: Room>(
     ensures led { R.led room.old room.new × IsSameRoom (R.held room.old) (R.held room.new) }
     ensures side { side_of reading.new ≡ Side.Reply }
 {
-    match open(net, &uri.target, request) {
+    let most = room.space().saturating_mul(PATIENCE);
+    match open(net, &uri.target, most, request) {
         Ok(()) => {}
         Err(PutFault::Failed) => return Err(ImageFault::Lost),
         Err(PutFault::OutOfMemory) => return Err(ImageFault::OutOfMemory),

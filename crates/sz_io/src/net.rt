@@ -16,8 +16,10 @@ pub trait Net {
     /// Where the network tells them, the exchanges so far and the answers still to come.
     ghost traffic: { Self → Option Traffic };
 
-    /// Connects to a server. A connection that stands is closed first. After a refusal none stands.
-    fn connect(&mut self, target: &Target) -> Result<(), PutFault>
+    /// Connects to a server, of whose answer the caller will take at most so many bytes: a real connection lasts no
+    /// longer than they need at a rate of its own. A connection that stands is closed first. After a refusal none
+    /// stands.
+    fn connect(&mut self, target: &Target, most: u64) -> Result<(), PutFault>
         ensures ok { OnOk result (WhereTold (Connects target.now) (traffic self.old) (traffic self.new)) }
         ensures failed { IsErrOf result PutFault.Failed
             → traffic self.new ≡ option_map (after_refused_connect target.now) (traffic self.old) }

@@ -80,7 +80,7 @@ impl Net for ScriptNet {
 
     ghost traffic = { λ net. Some net.traffic };
 
-    fn connect(&mut self, target: &Target) -> Result<(), PutFault>
+    fn connect(&mut self, target: &Target, _most: u64) -> Result<(), PutFault>
         ensures ok { OnOk result (Connects target.now self.old.traffic self.new.traffic) }
         ensures failed { IsErrOf result PutFault.Failed
             → self.new.traffic ≡ after_refused_connect target.now self.old.traffic }

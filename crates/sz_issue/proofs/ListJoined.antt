@@ -3,12 +3,12 @@ use Rattle.std.proofs.Common.{◌≡◌, ℕ, ℤ, List, [], ◌∷◌, ◌++◌
 use Rattle.std.proofs.lemmas.List.{append-nil}
 use Rattle.sz_der.specs.Der.{Der}
 use Rattle.sz_der.specs.Items.{AppendsInteger, AppendsItem}
+use Rattle.sz_der.specs.Spots.{AreEach}
 use Rattle.sz_der.specs.declared.tag.TheConstants.{INTEGER, SEQUENCE}
+use Rattle.sz_x509.specs.Certificate.{IsHssAlgorithm}
 use Rattle.sz_issue.specs.Parts.{Appends, IsCommonName, IsWrittenTime}
 use Rattle.sz_issue.specs.RevocationList.{AreWrittenEntries, CrlValues, IsWrittenEntry, IsWrittenNextUpdate, IsWrittenRevoked, IsWrittenTbsList}
 use Rattle.sz_issue.proofs.SharedParts.{and_after, Der_of, from_start}
-use Rattle.sz_x509.specs.Certificate.{IsHssAlgorithm}
-use Rattle.sz_x509.specs.Parts.{AreEach}
 
 -- ---- entries
 

@@ -3,13 +3,13 @@ use Rattle.std.specs.Prelude.{◌≡◌, ◌↔◌, ℕ, ℤ, pos, List, [], ◌
 use Rattle.std.specs.List.{Any}
 use Rattle.sz_der.specs.Der.{Der}
 use Rattle.sz_der.specs.Integer.{IsIntegerOf}
+use Rattle.sz_der.specs.Spots.{AreEach}
 use Rattle.sz_der.specs.declared.tag.TheConstants.{INTEGER, SEQUENCE}
-use Rattle.sz_issue.specs.Parts.{IsCommonName, IsWrittenSerial, IsWrittenTime}
-use Rattle.sz_issue.specs.declared.list.CrlSpec.{CrlSpec}
 use Rattle.sz_x509.specs.Certificate.{IsHssAlgorithm}
 use Rattle.sz_x509.specs.CrlView.{seconds_of}
-use Rattle.sz_x509.specs.Parts.{AreEach}
 use Rattle.sz_x509.specs.RevocationList.{AreEntries, is_listed, RevocationList}
+use Rattle.sz_issue.specs.Parts.{IsCommonName, IsWrittenSerial, IsWrittenTime}
+use Rattle.sz_issue.specs.declared.list.CrlSpec.{CrlSpec}
 
 -- What a list is to say. The issuer's name is the octets of its text; times are seconds since 1970.
 pub record CrlValues : Type 0 where

@@ -1,17 +1,17 @@
 -- The forms of members: what a value stands for in a form, or nothing where it has not the form.
-use Rattle.std.specs.Prelude.{ℕ, ◌&&◌, Bool, if◌then◌else◌, List, Option, Some, None, option_map, option_and_then, nat_le, nat_lt, pos, ◌*ℤ◌}
-use Rattle.std.specs.Int.{int_div_euclid}
+use Rattle.std.specs.Prelude.{ℕ, ◌&&◌, Bool, if◌then◌else◌, List, Option, Some, None, option_map, option_and_then, nat_le, nat_lt, ℤ, ◌-ℤ◌}
+use Rattle.std.specs.Int.Signed.{le_z}
 use Rattle.std.specs.List.{list_all}
 use Rattle.std.specs.Result.{result_ok}
 use Rattle.std.specs.Str.{bytes_eq}
 use Rattle.base64.specs.Engines.{standard}
 use Rattle.base64.specs.GeneralPurpose.{decode_of}
-use Rattle.jiff_core.specs.Timestamp.{IsTimestampNanos}
-use Rattle.jiff_fmt.specs.Temporal.{parse_timestamp}
+use Rattle.jiff_fmt.specs.Temporal.{DateParts, OffsetPiece, parse_pieces, piece_seconds, TimeParts}
 use Rattle.serde_json.specs.Data.{Data, Items}
 use Rattle.serde_json.specs.Find.{as_array, as_bool, as_number, as_object, as_str, as_u64}
 use Rattle.sz_base.specs.Encoding.{base64_text}
 use Rattle.sz_base.specs.declared.moment.Seconds.{Seconds}
+use Rattle.sz_calendar.specs.CivilTime.{CivilTime, first_second, IsDated, last_second, unix_seconds}
 
 -- a text
 abbrev pub text_of : Data → Option (List ℕ)
@@ -51,16 +51,41 @@ number_of value = number_between 0 4_294_967_295 value
 abbrev pub port_of : Data → Option ℕ
 port_of value = number_between 1 65535 value
 
--- The second in which the instant of the text lies, which is the text of a Timestamp of `jiff` (RFC 3339): a
--- fraction is dropped downwards.
+-- what a text says of a date and of a time of day, which is all but the fraction of its second
+abbrev pub civil_of : DateParts → TimeParts → CivilTime
+civil_of date time = record {
+  year = date.year;
+  month = date.month;
+  day = date.day;
+  hour = time.hour;
+  minute = time.minute;
+  second = time.second;
+}
+
+-- the second has a date, in the years -9999 to 9999
+abbrev pub is_dated : ℤ → Bool
+is_dated second = le_z first_second second && le_z second last_second
+
+-- a second that has one
+abbrev pub if_dated : ℤ → Option Seconds
+if_dated second = if is_dated second then Some (record { 0 = second }) else None
+
+-- the second at a date, a time of day and an offset, which is how far the time of day is ahead of UTC
+abbrev pub second_of : DateParts → Option TimeParts → Option OffsetPiece → Option Seconds
+second_of date None offset = None
+second_of date (Some time) None = None
+second_of date (Some time) (Some offset) =
+    if_dated (unix_seconds (civil_of date time) -ℤ piece_seconds offset)
+
+-- The second in which the instant of the text lies: the text is a date, a time of day and an offset (RFC 3339), as
+-- the parser of `jiff` reads them, with second 60 as 59. A fraction is dropped, which is downwards.
 unfoldable pub seconds_of : List ℕ → Option Seconds
 seconds_of text =
-    option_map (λ nanoseconds. record { 0 = int_div_euclid nanoseconds (pos 1_000_000_000) })
-    (result_ok (parse_timestamp text))
+    option_and_then (λ parts. second_of parts.date parts.time parts.offset) (result_ok (parse_pieces text))
 
--- the second is that of a Timestamp of `jiff`
+-- the second has a date in the calendar
 abbrev pub IsInstant : Seconds → Type 0
-IsInstant seconds = IsTimestampNanos (seconds.0 *ℤ pos 1_000_000_000)
+IsInstant seconds = IsDated seconds.0
 
 -- a date and a time of day
 abbrev pub date_time_of : Data → Option Seconds

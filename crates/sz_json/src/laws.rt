@@ -10,7 +10,7 @@ pub fn binary_is_base64()
     ensures { (text bytes : List ℕ) → (base64_of text ≡ Some bytes) ↔ IsBase64 text bytes }
 {}
 
-/// The second of a text that is a date and a time of day is that of a Timestamp of `jiff`.
+/// The second of a text that is a date and a time of day has a date in the calendar.
 pub fn times_are_instants()
     ensures { (text : List ℕ) (seconds : Seconds) → seconds_of text ≡ Some seconds → IsInstant seconds }
 {}

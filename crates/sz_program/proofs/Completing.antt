@@ -69,7 +69,7 @@ CommandIsComplete {D} seen = (sources : List Source) (old new : D) (before after
 module _ {D : Type 0} (seen : D → Seen) (complete : CommandIsComplete seen) (words : Words) (before after : Outside D)
     (old new : D) (device : Device) (sequence : ℕ) (still : IsUndisturbed seen words before after old new device sequence)
   where
-    reported : (sources : List Source) → NamesSources words.sources sources → (told : Report)
+    reported : (sources : List Source) → NamesSources words.disk words.sources sources → (told : Report)
         → Booted seen sources old new (onboard_part before).beside (onboard_part after).beside (Ok told)
         → (report.outcome_status told.outcome ≡ 70)
         ⊎ Completed seen words before after old new device (report.outcome_status told.outcome)
@@ -92,7 +92,7 @@ module _ {D : Type 0} (seen : D → Seen) (complete : CommandIsComplete seen) (w
           ]
     ]
 
-    answered : (sources : List Source) → NamesSources words.sources sources → (answer : Answer)
+    answered : (sources : List Source) → NamesSources words.disk words.sources sources → (answer : Answer)
         → Booted seen sources old new (onboard_part before).beside (onboard_part after).beside answer
         → (report.status_of answer ≡ 70) ⊎ Completed seen words before after old new device (report.status_of answer)
     answered sources named (Ok told) booted = reported sources named told booted

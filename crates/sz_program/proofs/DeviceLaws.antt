@@ -276,7 +276,7 @@ module _ {D : Type 0} (seen : D → Seen) (words : onboard.Words) (before after 
   onboard-leaves (Err _) (inr (inr (inr on))) is = absurd (omega arith)
 
   pub onboard-usage : (answer : booted.Answer) → onboard.OnboardRan seen words before after answer → report.status_of answer ≡ 2
-      → NamesNone words.sources
+      → NamesNone words.disk words.sources
   onboard-usage answer (inl none) is = none.none
   onboard-usage answer (inr (inl unread)) is =
       let e : 70 ≡ 2 = subst (λ (a : booted.Answer). report.status_of a ≡ 2) unread.answer_is is in absurd (omega (arith, e))

@@ -310,7 +310,7 @@ module _ {D : Type 0} (seen : D → Seen) (before after : Outside D) (status : �
 
   -- the command is none, or an onboard of which some SOURCE is none
   abbrev IsUsage : Option Command → Type 0
-  IsUsage command = (command ≡ None) ⊎ ((own : onboard.Words) × (command ≡ Some (Onboard own)) × NamesNone own.sources)
+  IsUsage command = (command ≡ None) ⊎ ((own : onboard.Words) × (command ≡ Some (Onboard own)) × NamesNone own.disk own.sources)
 
   does_usage : (command : Option Command) → Does seen command before after status → status ≡ 2 → IsUsage command
   does_usage None does is = inl refl

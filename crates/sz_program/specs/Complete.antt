@@ -66,7 +66,7 @@ module _ {D : Type 0} (seen : D → Seen) (words : Words) (before after : Outsid
   -- the last. The counts of disk, clock and output did not rise.
   pub record IsUndisturbed (device : Device) (sequence : ℕ) : Type 0 where
     pub sources : List Source
-    pub named : NamesSources words.sources sources
+    pub named : NamesSources words.disk words.sources sources
     pub on : ChangesDisk words.disk before.disks after.disks old new
     pub layout : HasLayout (seen old).size
     pub reads : ReadsAs (seen old) device sequence
@@ -80,7 +80,7 @@ module _ {D : Type 0} (seen : D → Seen) (words : Words) (before after : Outsid
   -- first offer that the device takes, or none was heard and it changed nothing.
   pub record Completed (device : Device) (status : ℕ) : Type 0 where
     pub sources : List Source
-    pub named : NamesSources words.sources sources
+    pub named : NamesSources words.disk words.sources sources
     pub report : Report
     pub changes : Changes seen old new device
     pub ends : EndsAs status changes.boot

@@ -50,9 +50,17 @@ check_matched rows =
 abbrev pub is_disk_word : List ℕ → Bool
 is_disk_word word = (slice_index word 0 == 64) && nat_le 2 (length word)
 
+-- the word is that of the disk in the file at this path
+abbrev pub is_disk_at : List ℕ → List ℕ → Bool
+is_disk_at path word = bytes_eq word (64 ∷ path)
+
 -- the command, where this word names a disk
 abbrev pub with_disk_word : List ℕ → Command → Option Command
 with_disk_word word command = if is_disk_word word then Some command else None
+
+-- the command, where this word names a disk, and not the one in the file at this path
+abbrev pub with_disk_beside : List ℕ → List ℕ → Command → Option Command
+with_disk_beside word path command = if is_disk_at path word then None else with_disk_word word command
 
 abbrev pub keygen_form : App
 keygen_form = form_of (codes "keygen") (codes "LEVELS" ∷ codes "PUBLIC" ∷ codes "KEY" ∷ [])
@@ -62,7 +70,7 @@ abbrev pub keygen_matched : List Row → Option Command
 keygen_matched rows =
     option_and_then (λ levels.
     option_and_then (λ public.
-    option_and_then (λ key. with_disk_word key (Keygen (record { levels = levels; public = public; key = key })))
+    option_and_then (λ key. with_disk_beside key public (Keygen (record { levels = levels; public = public; key = key })))
     (first_of (codes "KEY") rows)) (first_of (codes "PUBLIC") rows)) (first_of (codes "LEVELS") rows)
 
 abbrev pub sign_form : App
@@ -73,7 +81,8 @@ abbrev pub sign_matched : List Row → Option Command
 sign_matched rows =
     option_and_then (λ file.
     option_and_then (λ signature.
-    option_and_then (λ key. with_disk_word key (Sign (record { file = file; signature = signature; key = key })))
+    option_and_then (λ key. if is_disk_at file key then None
+    else with_disk_beside key signature (Sign (record { file = file; signature = signature; key = key })))
     (first_of (codes "KEY") rows)) (first_of (codes "SIGNATURE") rows)) (first_of (codes "FILE") rows)
 
 -- ---- the commands of a device
@@ -85,14 +94,15 @@ init_form = form_of (codes "init") (codes "IDENTITY" ∷ codes "DISK" ∷ [])
 abbrev pub init_matched : List Row → Option Command
 init_matched rows =
     option_and_then (λ identity.
-    option_and_then (λ disk. with_disk_word disk (Init (record { identity = identity; disk = disk })))
+    option_and_then (λ disk. with_disk_beside disk identity (Init (record { identity = identity; disk = disk })))
     (first_of (codes "DISK") rows)) (first_of (codes "IDENTITY") rows)
 
 -- one SOURCE or more behind the disk
 abbrev pub onboard_form : App
 onboard_form = open_form_of (codes "onboard") (codes "DISK" ∷ []) (codes "SOURCE")
 
--- the onboard of the words that were matched to its arguments; whether each SOURCE is one shows later
+-- the onboard of the words that were matched to its arguments; whether each SOURCE is one, and reads another file than
+-- the disk's, shows later
 abbrev pub onboard_matched : List Row → Option Command
 onboard_matched rows =
     option_and_then (λ disk.
@@ -135,12 +145,12 @@ abbrev pub words_of : List (List ℕ) → Option Command
 words_of [] = None
 words_of (name ∷ words) = command_named name words
 
--- The words are no command: they are matched to none, or to an onboard of which some SOURCE is none or which has too
--- many.
+-- The words are no command: they are matched to none, or to an onboard of which some SOURCE is none or reads the disk's
+-- file, or which has too many.
 abbrev pub IsNoCommand : List (List ℕ) → Type 0
 IsNoCommand words =
     (words_of words ≡ None)
-    ⊎ ((own : onboard.Words) × (words_of words ≡ Some (Onboard own)) × NamesNone own.sources)
+    ⊎ ((own : onboard.Words) × (words_of words ≡ Some (Onboard own)) × NamesNone own.disk own.sources)
 
 -- the words are an onboard
 abbrev pub IsOnboard : List (List ℕ) → Type 0

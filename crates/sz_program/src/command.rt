@@ -6,7 +6,7 @@ ghost use Rattle.clap.specs.Walk.{rows_of};
 ghost use Rattle.sz_program.specs.Forms.{matched};
 ghost use Rattle.sz_program.specs.View.{command_of};
 ghost use Rattle.sz_program.specs.Words.{check_form, check_matched, keygen_form, keygen_matched, sign_form, sign_matched, words_of};
-ghost use Rattle.sz_program.specs.Words.{is_disk_word};
+ghost use Rattle.sz_program.specs.Words.{is_disk_at, is_disk_word};
 
 use crate::device_words::read_device_command;
 use crate::form::{form, taken, texts, word_of};
@@ -127,7 +127,7 @@ fn keygen_matched(alloc: Global, matches: &ArgMatches<'_>) -> Result<Option<Comm
     let Some(key) = word_of(matches, "KEY") else {
         return Ok(None);
     };
-    if !is_disk_word(key.as_bytes()) {
+    if !is_disk_word(key.as_bytes()) || is_disk_at(public.as_bytes(), key.as_bytes()) {
         return Ok(None);
     }
     let words = KeygenWords {
@@ -167,7 +167,10 @@ fn sign_matched(alloc: Global, matches: &ArgMatches<'_>) -> Result<Option<Comman
     let Some(key) = word_of(matches, "KEY") else {
         return Ok(None);
     };
-    if !is_disk_word(key.as_bytes()) {
+    if !is_disk_word(key.as_bytes())
+        || is_disk_at(file.as_bytes(), key.as_bytes())
+        || is_disk_at(signature.as_bytes(), key.as_bytes())
+    {
         return Ok(None);
     }
     let words = SignWords {
@@ -183,4 +186,14 @@ pub(crate) fn is_disk_word(word: &[u8]) -> bool
     ensures { result ≡ is_disk_word word.now }
 {
     word.len() >= 2 && word[0] == b'@'
+}
+
+/// The word is that of the disk in the file at this path.
+pub(crate) fn is_disk_at(path: &[u8], word: &[u8]) -> bool
+    ensures { result ≡ is_disk_at path.now word.now }
+{
+    match word.split_first() {
+        Some((b'@', file)) => file == path,
+        _ => false,
+    }
 }

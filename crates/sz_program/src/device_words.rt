@@ -8,7 +8,7 @@ ghost use Rattle.sz_program.specs.View.{command_of};
 ghost use Rattle.sz_program.specs.Words.{audit_form, audit_matched, device_command_named, init_form, init_matched};
 ghost use Rattle.sz_program.specs.Words.{onboard_form, onboard_matched, show_form, show_matched};
 
-use crate::command::{Command, is_disk_word};
+use crate::command::{Command, is_disk_at, is_disk_word};
 use crate::form::{form, open_form, taken, texts, word_of, words_of};
 use clap::ArgMatches;
 use std::alloc::Global;
@@ -68,7 +68,7 @@ fn init_matched(alloc: Global, matches: &ArgMatches<'_>) -> Result<Option<Comman
     let Some(disk) = word_of(matches, "DISK") else {
         return Ok(None);
     };
-    if !is_disk_word(disk.as_bytes()) {
+    if !is_disk_word(disk.as_bytes()) || is_disk_at(identity.as_bytes(), disk.as_bytes()) {
         return Ok(None);
     }
     let words = InitWords {

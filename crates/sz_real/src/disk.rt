@@ -1,9 +1,9 @@
 //! A disk in a file of the operating system.
-ghost use Rattle.std.specs.Prelude.{◌≡◌, ◌+◌, ◌≤◌, length, Some, IsTrue, OnOk, IfSome, IsSomeAnd, is_some, is_err};
+ghost use Rattle.std.specs.Prelude.{◌≡◌, ◌+◌, ◌≤◌, length, Some, IsTrue, IsErr, OnOk, OnErr, IfSome, IsSomeAnd, is_some, is_err};
 ghost use Rattle.sz_disk.specs.Disk.{untold};
 ghost use Rattle.sz_spec.specs.Cause.{HasCause};
 ghost use Rattle.sz_real.specs.Adapter.{disk_faults};
-ghost use Rattle.sz_real.specs.Open.{disk_file, IsNotTried, IsRefused, StaysOpen};
+ghost use Rattle.sz_real.specs.Open.{disk_file, IsLost, IsNotTried, StaysOpen};
 ghost use Rattle.sz_real.specs.Place.{IsPartAt, TakesPart};
 
 use crate::PositionedFile;
@@ -23,11 +23,13 @@ pub const FILE_DISK_SIZE: u64 = 4_294_967_296;
 /// Who may read and write a disk's file that is made: its owner alone, since a disk may hold private keys.
 const OWNER_ALONE: u32 = 0o600;
 
-/// The file of a disk that was opened, which no other process has, and whether its name is on the medium.
+/// The file of a disk that was opened, which no other process has, whether its name is on the medium, and whether a
+/// sync of it was refused.
 #[derive(Drop)]
 pub(crate) struct Held<F> {
     file: F,
     is_named: bool,
+    is_spoiled: bool,
 }
 
 /// What became of a disk's file.
@@ -40,7 +42,8 @@ pub(crate) enum Opening<F> {
 
 /// A disk whose bytes are a plain file's, with zeros behind the file's end. The first call opens the file, makes
 /// it where it isn't there, and takes its lock, which holds until the disk is dropped; where that is refused,
-/// each call fails. Each error is one fault. It tells nothing of what it holds.
+/// each call fails. So does each call after a sync that was refused, since nobody knows what the medium has then. Each
+/// error is one fault. It tells nothing of what it holds.
 #[derive(Drop)]
 pub struct FileDisk<'a, R: Files> {
     runtime: &'a R,
@@ -88,13 +91,13 @@ where
             IfSome (R.File.PositionedFile.held file) (λ bytes. IsPartAt bytes at into.new))) }
         ensures unchanged { StaysOpen R.File.PositionedFile.held (λ before now. now ≡ before)
             (disk_file self.old) (disk_file self.new) }
-        ensures refused { IsRefused self.old → IsRefused self.new }
+        ensures lost { IsLost self.old → IsErr result × IsLost self.new }
         ensures cause { HasCause (disk_faults self.old) (disk_faults self.new) (is_err result) }
     {
         self.open_once();
         let answer = match &mut self.opening {
-            Opening::Open(held) => fill_from(&mut held.file, at, into),
-            Opening::NotTried | Opening::Refused => Err(not_open()),
+            Opening::Open(held) if !held.is_spoiled => fill_from(&mut held.file, at, into),
+            _ => Err(not_usable()),
         };
         counted(&mut self.faults, answer)
     }
@@ -105,29 +108,34 @@ where
         ensures written { OnOk result (StaysOpen R.File.PositionedFile.held
             (λ before now. TakesPart before now at bytes.now) (disk_file self.old) (disk_file self.new)) }
         ensures open { OnOk result (IsTrue (is_some (disk_file self.new))) }
-        ensures refused { IsRefused self.old → IsRefused self.new }
+        ensures lost { IsLost self.old → IsErr result × IsLost self.new }
         ensures cause { HasCause (disk_faults self.old) (disk_faults self.new) (is_err result) }
     {
         self.open_once();
         let answer = match &mut self.opening {
-            Opening::Open(held) => write_whole_to(&mut held.file, at, bytes),
-            Opening::NotTried | Opening::Refused => Err(not_open()),
+            Opening::Open(held) if !held.is_spoiled => write_whole_to(&mut held.file, at, bytes),
+            _ => Err(not_usable()),
         };
         counted(&mut self.faults, answer)
     }
 
-    /// The first one also has the file's name on the medium.
+    /// The first one also has the file's name on the medium. One that is refused is the last call that does anything.
     fn sync(&mut self) -> Result<(), Failed>
         ensures open { OnOk result (IsTrue (is_some (disk_file self.new))) }
         ensures unchanged { StaysOpen R.File.PositionedFile.held (λ before now. now ≡ before)
             (disk_file self.old) (disk_file self.new) }
-        ensures refused { IsRefused self.old → IsRefused self.new }
+        ensures lost { IsLost self.old → IsErr result × IsLost self.new }
+        ensures refused { OnErr result (IsLost self.new) }
         ensures cause { HasCause (disk_faults self.old) (disk_faults self.new) (is_err result) }
     {
         self.open_once();
         let answer = match &mut self.opening {
-            Opening::Open(held) => sync_held(self.runtime, self.alloc, &self.path, held),
-            Opening::NotTried | Opening::Refused => Err(not_open()),
+            Opening::Open(held) if !held.is_spoiled => {
+                let synced = sync_held(self.runtime, self.alloc, &self.path, held);
+                held.is_spoiled = synced.is_err();
+                synced
+            }
+            _ => Err(not_usable()),
         };
         counted(&mut self.faults, answer)
     }
@@ -139,7 +147,8 @@ where
 {
     fn open_once(&mut self)
         ensures open { IfSome (disk_file self.old) (λ file. disk_file self.new ≡ Some file) }
-        ensures refused { IsRefused self.old → IsRefused self.new }
+        ensures lost { IsLost self.old → IsLost self.new }
+        ensures tried { ¬ IsNotTried self.new }
         ensures faults { self.new.faults ≡ self.old.faults }
     {
         if let Opening::NotTried = self.opening {
@@ -147,6 +156,7 @@ where
                 Ok(file) => Opening::Open(Held {
                     file,
                     is_named: false,
+                    is_spoiled: false,
                 }),
                 Err(_) => Opening::Refused,
             };
@@ -184,6 +194,6 @@ fn sync_held<R: Files>(
     Ok(())
 }
 
-fn not_open() -> io::Error {
+fn not_usable() -> io::Error {
     io::Error::from(ErrorKind::NotConnected)
 }

@@ -81,7 +81,8 @@ where
         counted(&mut self.faults, answer)
     }
 
-    /// The file and its name are on the medium at `Ok`. The file is written in its place: no other file is made.
+    /// The file and its name are on the medium at `Ok`. The file is written in its place: no other file is made. It is
+    /// emptied only once its lock is taken, so a file that somebody holds as a disk stays as it is.
     fn write(&mut self, path: &Text, bytes: &[u8]) -> Result<(), PutFault>
         ensures closed { open_file self.new ≡ None }
         ensures cause { HasCause (folder_faults self.old) (folder_faults self.new) (put_failed result) }
@@ -185,10 +186,12 @@ where
 {
     let path = path_text(path)?;
     let mut how = OpenOptions::new();
-    how.write(true).create(true).truncate(true);
+    how.write(true).create(true);
     let Some((mut file, _)) = open_plain(runtime, &how, path)? else {
         return Err(io::Error::from(ErrorKind::NotFound));
     };
+    file.lock_alone()?;
+    file.set_len(0)?;
     write_whole_to(&mut file, 0, bytes)?;
     file.sync_all()?;
     sync_folder(runtime, alloc, path)

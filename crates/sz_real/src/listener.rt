@@ -130,7 +130,8 @@ impl<R: net::Net + Clock> RealListener<'_, R> {
             return Err(io::Error::from(ErrorKind::NotConnected));
         };
         let (stream, _) = listening.accept()?;
-        self.connection = Some(Connection::begin(stream, self.runtime)?);
+        // (the rate alone bounds how long a request may take)
+        self.connection = Some(Connection::begin(stream, self.runtime, u64::MAX)?);
         Ok(())
     }
 

@@ -7,7 +7,7 @@ ghost use Rattle.sz_real.specs.Limits.{IsUsual};
 ghost use Rattle.sz_real.specs.Stream.{net_connection, SentOver, SentFrontOver, ReceivedOver};
 
 use crate::address::host_text;
-use crate::connection::{Connection, Limits};
+use crate::connection::{Connection, Limits, time_left};
 use crate::fault::{counted, put_counted};
 use std::alloc::Global;
 use std::io::{self, ErrorKind};
@@ -15,6 +15,9 @@ use std::net::{self, ToSocketAddrs};
 use std::rt::Clock;
 use sz_base::{Failed, PutFault, Target};
 use sz_io::Net;
+
+/// How many addresses of a name are tried.
+const MOST_ADDRESSES: usize = 8;
 
 /// Connections over TCP, of which one stands at a time. Each error is one fault, and so is a wait that lasts too
 /// long. It tells nothing of what goes over them.
@@ -56,13 +59,13 @@ impl<R: net::Net + Clock> Net for RealNet<'_, R> {
 
     ghost traffic = { λ _. None };
 
-    /// The addresses are tried in the resolver's order.
-    fn connect(&mut self, target: &Target) -> Result<(), PutFault>
+    /// The first eight addresses are tried in the resolver's order.
+    fn connect(&mut self, target: &Target, most: u64) -> Result<(), PutFault>
         ensures stands { is_some (net_connection self.new) ≡ is_ok result }
         ensures cause { HasCause (net_faults self.old) (net_faults self.new) (put_failed result) }
     {
         self.connection = None;
-        let answer = self.connect_to(target);
+        let answer = self.connect_to(target, most);
         put_counted(&mut self.faults, answer)
     }
 
@@ -102,16 +105,22 @@ impl<R: net::Net + Clock> Net for RealNet<'_, R> {
 }
 
 impl<R: net::Net + Clock> RealNet<'_, R> {
-    fn connect_to(&mut self, target: &Target) -> io::Result<()>
+    fn connect_to(&mut self, target: &Target, most: u64) -> io::Result<()>
         requires { self.old.connection ≡ None }
         ensures stands { is_some self.new.connection ≡ is_ok result }
         ensures faults { self.new.faults ≡ self.old.faults }
     {
+        let addresses = (host_text(&target.host)?, target.port).to_socket_addrs(self.runtime)?;
+        let start = self.runtime.monotonic()?;
         let mut last = io::Error::from(ErrorKind::NotFound);
-        for address in (host_text(&target.host)?, target.port).to_socket_addrs(self.runtime)? {
-            match self.runtime.connect_timeout(address, self.limits.connect) {
+        for address in addresses.take(MOST_ADDRESSES) {
+            let left = time_left(self.limits.addresses, start, self.runtime.monotonic()?)?;
+            match self
+                .runtime
+                .connect_timeout(address, left.min(self.limits.connect))
+            {
                 Ok(stream) => {
-                    self.connection = Some(Connection::begin(stream, self.runtime)?);
+                    self.connection = Some(Connection::begin(stream, self.runtime, most)?);
                     return Ok(());
                 }
                 Err(error) => last = error,

@@ -6,7 +6,7 @@ use Rattle.sz_record.specs.Fault.{IsFault}
 use Rattle.sz_record.specs.Field.{number}
 use Rattle.sz_record.specs.Reading.{IsFirstWrong, IsWrong, TakesField, TakesNumber}
 use Rattle.sz_record.specs.Spelling.{device_bytes, new_version, old_version, record_bytes}
-use Rattle.sz_record.specs.Stored.{device_field, first_wrong, IsStorable, IsStored, IsWithin, record_field, wrong_in}
+use Rattle.sz_record.specs.Stored.{device_field, first_wrong, HasWidths, IsStorable, IsStored, IsWithin, record_field, wrong_in}
 use Rattle.sz_record.specs.declared.device.Device.{Device}
 use Rattle.sz_record.specs.declared.fault.RecordFault.TheVariants.{BadRecord, OutOfMemory as record_memory}
 use Rattle.sz_record.specs.declared.unread.Wrong.{Wrong}
@@ -84,9 +84,9 @@ empty (x ∷ xs) is = absurd (omega arith)
 pub stored_taken : (space version : ℕ) (payload mid new : List ℕ) (device : Device)
     → TakesNumber w8 old_version new_version (version ∷ []) version payload mid
     → TakesField (device_field space version) (device_bytes version device) mid new → length new ≡ 0
-    → IsStorable version device → IfSome device.image (IsWithin space) → IsStored space payload device
+    → IsStorable version device → IfSome device.image (IsWithin space) → HasWidths device → IsStored space payload device
 unfolding record_bytes
-stored_taken space version payload mid new device one rest none storable within = record {
+stored_taken space version payload mid new device one rest none storable within widths = record {
   version = version;
   known = known version one.above one.below;
   spelled =
@@ -95,6 +95,7 @@ stored_taken space version payload mid new device one rest none storable within 
       ∙ append-nil (device_bytes version device));
   storable = storable;
   within = within;
+  widths = widths;
 }
   where
     known : (n : ℕ) → 1 ≤ n → n ≤ 2 → (n ≡ 1) ⊎ (n ≡ 2)

@@ -226,13 +226,13 @@ device_once space version a b p q in_a in_b r s is =
 
 -- a payload is the stored form of one device
 pub one_device : (space : ℕ) (payload : List ℕ) (a b : Device) → IsStored space payload a → IsStored space payload b
-    → HasWidths a → HasWidths b → a ≡ b
+    → a ≡ b
 unfolding record_bytes
-one_device space payload a b p q r s =
+one_device space payload a b p q =
     let is : record_bytes p.version a ≡ record_bytes q.version b = sym p.spelled ∙ q.spelled in
     let version : p.version ≡ q.version = cc is in
     let rest : device_bytes p.version a ≡ device_bytes q.version b = ap (λ (l : List ℕ). drop 1 l) is in
     let Q : ℕ → Type 0 = λ v. IsStorable v b in
     let R : ℕ → Type 0 = λ v. device_bytes p.version a ≡ device_bytes v b in
-    device_once space p.version a b p.storable (subst Q (sym version) q.storable) p.within q.within r s
+    device_once space p.version a b p.storable (subst Q (sym version) q.storable) p.within q.within p.widths q.widths
     (subst R (sym version) rest)

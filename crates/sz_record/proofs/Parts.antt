@@ -240,12 +240,12 @@ told_record space version device known is within wide =
     told_number (device_field space) (tells_8 version) between.0 between.1 (told_device space version device is within wide)
 
 -- a payload that is spelled has no wrong byte
-pub stored_is_right : (space : ℕ) (payload : List ℕ) (device : Device) → IsStored space payload device → HasWidths device
+pub stored_is_right : (space : ℕ) (payload : List ℕ) (device : Device) → IsStored space payload device
     → first_wrong space payload ≡ None
 unfolding first_wrong
-stored_is_right space payload device is wide =
+stored_is_right space payload device is =
     let own = record_bytes is.version device in
-    let told = (told_record space is.version device is.known is.storable is.within wide).takes payload []
+    let told = (told_record space is.version device is.known is.storable is.within is.widths).takes payload []
     (is.spelled ∙ sym (append-nil own)) in
     let whole : (length own == length payload) ≡ true =
     eq-eqb (length own) (length payload) (ap (λ (s : List ℕ). length s) (sym is.spelled)) in

@@ -114,14 +114,6 @@ pub record IsWithin (space : ℕ) (image : Image) : Type 0 where
   pub area : image.area ≤ 1
   pub size : image.size ≤ space
 
--- the payload is the stored form of this device, in one of the versions
-pub record IsStored (space : ℕ) (payload : List ℕ) (device : Device) : Type 0 where
-  pub version : ℕ
-  pub known : (version ≡ old_version) ⊎ (version ≡ new_version)
-  pub spelled : payload ≡ record_bytes version device
-  pub storable : IsStorable version device
-  pub within : IfSome device.image (IsWithin space)
-
 -- ---- what the types of the fields tell
 
 -- seconds of 64 bits, and a nonce of 16 bytes where there is one
@@ -138,3 +130,15 @@ pub record HasWidths (device : Device) : Type 0 where
   pub serial : IsSerial device.identity.serial
   pub image : IfSome device.image HasImageWidths
   pub onboarded : IfSome device.onboarded (λ committed. HasMomentWidths committed.when)
+
+-- ---- the stored form
+
+-- The payload is the stored form of this device, in one of the versions, and the device's parts fit their types: so it
+-- is that of no other device.
+pub record IsStored (space : ℕ) (payload : List ℕ) (device : Device) : Type 0 where
+  pub version : ℕ
+  pub known : (version ≡ old_version) ⊎ (version ≡ new_version)
+  pub spelled : payload ≡ record_bytes version device
+  pub storable : IsStorable version device
+  pub within : IfSome device.image (IsWithin space)
+  pub widths : HasWidths device

@@ -22,5 +22,5 @@ pub use laws::{devices_are_rewritten, payloads_have_one_reading};
 pub use reading::read;
 pub use sizes::{installed_size, onboarded_size, size};
 pub use storable::is_storable;
-pub use widths::{device_widths, moment_widths};
+pub use widths::device_widths;
 pub use writing::write;

@@ -3,15 +3,16 @@
 ghost use Rattle.std.specs.Prelude.{◌≡◌, ℕ, ◌≤◌, ◌∷◌, [], length, slice_index, IfOk, IfErr, IfSome, OnOk, None};
 ghost use Rattle.std.specs.Int.{w8};
 ghost use Rattle.std.specs.List.{All};
-ghost use Rattle.sz_base.specs.Identity.{IsWhole, most_anchor_bytes};
+ghost use Rattle.sz_base.specs.Identity.{IsWhole, most_anchor_bytes, most_anchors};
 ghost use Rattle.sz_base.specs.Serial.{IsSerial};
 ghost use Rattle.sz_record.specs.Fault.{IsFault};
 ghost use Rattle.sz_record.specs.Field.{bytes, long, longest, number, optional, text};
 ghost use Rattle.sz_record.specs.Reading.{IsFirstWrong, IsWrong, TakesField};
-ghost use Rattle.sz_record.specs.Spelling.{anchors_bytes, committed_bytes, device_bytes, evidence_bytes, handling_number, identity_bytes, image_bytes, long_bytes, moment_bytes, nonce_bytes, optional_bytes, text_bytes, time_bytes};
+ghost use Rattle.sz_record.specs.Spelling.{anchors_bytes, committed_bytes, device_bytes, evidence_bytes, handling_number, identity_bytes, image_bytes, long_bytes, moment_bytes, nonce_bytes, old_version, optional_bytes, text_bytes, time_bytes};
 ghost use Rattle.sz_record.specs.Stored.{anchors_field, committed_field, device_field, evidence_field, first_wrong, identity_field, image_field, IsLong, IsStorable, IsStorableCommitted, IsStorableEvidence, IsStorableImage, IsStorableMoment, IsStored, IsWithin, moment_field, nonce_field, serial_field};
 
 use crate::unread::{Unread, Wrong};
+use crate::widths::device_widths;
 use crate::{Committed, Device, Image, RecordFault};
 use std::alloc::Global;
 use sz_artifacts::Handling;
@@ -82,6 +83,7 @@ fn read_payload(alloc: Global, space: u64, payload: &[u8]) -> Result<Device, Wro
     if behind > 0 {
         return Err(Wrong::At { left: behind });
     }
+    device_widths(&device);
     Ok(device)
 }
 
@@ -160,7 +162,7 @@ fn read_anchors(alloc: Global, unread: &mut Unread<'_>) -> Result<Certs, Wrong>
     ensures taken { IfOk result (λ read. TakesField anchors_field (anchors_bytes read)
         unread.old.left.now unread.new.left.now) }
     ensures some { IfOk result (λ read. 1 ≤ length read) }
-    ensures most { IfOk result (λ read. length read ≤ MOST_ANCHORS) }
+    ensures most { IfOk result (λ read. length read ≤ most_anchors) }
     ensures short { IfOk result (All (λ anchor. length anchor ≤ most_anchor_bytes)) }
     ensures wrong { IfErr result (IsWrong anchors_field unread.old.left.now) }
 {
@@ -332,7 +334,7 @@ fn read_time(unread: &mut Unread<'_>) -> Result<Seconds, Wrong>
 fn read_nonce(unread: &mut Unread<'_>, version: u8) -> Result<Option<[u8; 16]>, Wrong>
     ensures taken { IfOk result (λ read. TakesField (nonce_field version) (nonce_bytes version read)
         unread.old.left.now unread.new.left.now) }
-    ensures storable { IfOk result (λ read. version ≡ OLD_VERSION → read ≡ None) }
+    ensures storable { IfOk result (λ read. version ≡ old_version → read ≡ None) }
     ensures wrong { IfErr result (IsWrong (nonce_field version) unread.old.left.now) }
 {
     if version == OLD_VERSION {

@@ -20,8 +20,8 @@ pub fn device_widths(device: &Device)
     }
 }
 
-/// The parts of a moment fit their types.
-pub fn moment_widths(_when: Moment)
+// The parts of a moment fit their types.
+fn moment_widths(_when: Moment)
     ensures { HasMomentWidths _when }
 {}
 

@@ -93,7 +93,7 @@ AttachAnswers old new (Err _) = ⊥
 -- the leaf numbers that are handed out: n of them, from the next one on
 abbrev pub handed_out : ℕ → SignerState → Reserved
 handed_out n signer =
-    record { id = signer.stored.key.top.id; first = signer.stored.next; left = n }
+    record { key = signer.stored.key; first = signer.stored.next; left = n }
 
 -- What `reserve` of n leaf numbers answers: they are handed out only once every image means the key with next behind
 -- them. A signer that failed is spent: it keeps its key, its next leaf number and its end, and hands out no more.

@@ -148,10 +148,11 @@ impl Signer {
     }
 
     /// Finds the signer of the key on a disk, as it is also after a crash at any moment. It tests the size of the disk
-    /// first, writes nothing, and builds the top tree last.
+    /// first and writes nothing. It builds no tree, so that it leaves the runtime and the gate alone: the trees are
+    /// built as they are signed with.
     pub fn attach<R: Threads + Sync, G: Gate + Sync, D: Disk>(
-        rt: &R,
-        gate: &G,
+        _rt: &R,
+        _gate: &G,
         alloc: Global,
         disk: &mut D,
     ) -> Result<Signer, SignFault>
@@ -166,7 +167,7 @@ impl Signer {
         check_size(disk)?;
         let ready = sz_cell::attach(disk, REGION)?;
         let StoredKey { key, next, end } = read_stored(alloc, &ready, disk)?;
-        let trees = Trees::build(rt, gate, alloc, key)?;
+        let trees = Trees::of(alloc, key);
         Ok(Signer {
             trees,
             next,

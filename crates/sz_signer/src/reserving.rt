@@ -18,7 +18,7 @@ impl Signer {
     /// Hands out `n` leaf numbers, from the next one on, once the disk says that they are: a crash from then on leaves
     /// the key with its next leaf number behind them, and at any moment before it leaves that key or the one from
     /// before. After `Failed` and `CellExhausted` the signer hands out no more, and the key is attached again. At
-    /// `Exhausted` and `CellExhausted` nothing was written. Takes no memory.
+    /// `Exhausted` and `CellExhausted` nothing was written. Builds no tree, and takes no memory.
     pub fn reserve<D: Disk>(&mut self, disk: &mut D, n: u64) -> Result<Leaves, SignFault>
         requires some { 1 ≤ n }
         requires size { least_size ≤ (D.seen disk.old).size }
@@ -43,6 +43,6 @@ impl Signer {
         let ready = ready.replace(disk, payload.as_slice())?;
         self.cell = Some(ready);
         self.next = next + n;
-        Ok(Leaves::of(self.trees.key().id(), next, n))
+        Ok(Leaves::of(self.trees.key().copy(), next, n))
     }
 }

@@ -10,7 +10,7 @@ use Rattle.sz_base.specs.declared.fault.BaseFault.TheVariants.{Form, OutOfMemory
 use Rattle.sz_base.specs.declared.target.Target.{Target}
 use Rattle.sz_base.proofs.Numerals.{IsDecimal-decimal}
 use Rattle.sz_base.proofs.Splits.{one_target, one_target_text}
-use Rattle.sz_source.specs.Source.{HasText, IsAnswerFor, IsPath, IsPathOf, IsSource, IsSplit, source_text}
+use Rattle.sz_source.specs.Source.{HasText, IsAnswerFor, IsDomain, IsPath, IsPathOf, IsSource, IsSplit, source_text}
 use Rattle.sz_source.specs.declared.source.Source.{Source}
 use Rattle.sz_source.specs.declared.source.Source.TheVariants.{Usb, Dhcp4, Dhcp6, Dns, Server}
 use Rattle.sz_source.proofs.Colons.{one_split}
@@ -195,7 +195,7 @@ spelled (Dhcp6 path) h = (refl, h)
 spelled (Dns path domain) h = (
   path ++ 58 ∷ domain,
   refl,
-  record { split = record { split = refl; last = h.2 }; some_path = h.0; some_domain = h.1 },
+  record { split = record { split = refl; last = h.2 }; some_path = h.0; under = h.1 },
 )
 spelled (Server target) h = (
   target_text target,
@@ -222,11 +222,11 @@ source_again source text (Err Form) h reads = absurd (reads.refused.0 refl sourc
 source_again source text (Err OutOfMemory) h reads = inr refl
 
 -- a split with an empty part is no answer
-pub no_answer : (text path domain : List ℕ) → IsSplit text path domain → (IsPath path → 1 ≤ length domain → ⊥)
+pub no_answer : (text path domain : List ℕ) → IsSplit text path domain → (IsPath path → IsDomain domain → ⊥)
     → (other given : List ℕ) → IsAnswerFor text other given → ⊥
 no_answer text path domain split empty other given h =
     let parts = one_split path domain other given split.last h.split.last (sym split.split ∙ h.split.split) in
-    empty (rw parts.0 h.some_path) (rw parts.1 h.some_domain)
+    empty (rw parts.0 h.some_path) (rw parts.1 h.under)
 
 -- where the text is that of a value, want of memory is no claim
 pub memory_ran_out : {T : Type 0} → (Stands : T → Type 0) (value : T) → Stands value

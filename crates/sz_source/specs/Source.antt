@@ -1,5 +1,5 @@
 -- Sources as texts: a word that says what it is, a colon, and what it names.
-use Rattle.std.specs.Prelude.{◌≡◌, ◌≢◌, ◌≤◌, ℕ, List, ◌∷◌, ◌++◌, length, codes}
+use Rattle.std.specs.Prelude.{◌≡◌, ◌≢◌, ◌≤◌, ℕ, List, [], ◌∷◌, ◌++◌, length, codes}
 use Rattle.std.specs.List.{All}
 use Rattle.sz_base.specs.Host.{IsHost}
 use Rattle.sz_base.specs.Target.{IsTarget, target_text}
@@ -17,11 +17,16 @@ pub record IsSplit (text before behind : List ℕ) : Type 0 where
   pub split : text ≡ before ++ 58 ∷ behind
   pub last : All (λ byte. byte ≢ 58) behind
 
--- a path, and behind the last colon a domain of at least one byte
+-- any bytes, at least one, of which the last is no point: names are looked up under the domain as it stands
+pub record IsDomain (domain : List ℕ) : Type 0 where
+  pub some : 1 ≤ length domain
+  pub no_point : (front : List ℕ) → domain ≢ front ++ 46 ∷ []
+
+-- a path, and behind the last colon a domain
 pub record IsAnswerFor (text path domain : List ℕ) : Type 0 where
   pub split : IsSplit text path domain
   pub some_path : IsPath path
-  pub some_domain : 1 ≤ length domain
+  pub under : IsDomain domain
 
 -- the text is a path as it stands
 pub record IsPathOf (text path : List ℕ) : Type 0 where
@@ -50,7 +55,7 @@ abbrev pub HasText : Source → Type 0
 HasText (Usb path) = IsPath path
 HasText (Dhcp4 path) = IsPath path
 HasText (Dhcp6 path) = IsPath path
-HasText (Dns path domain) = IsPath path × (1 ≤ length domain) × All (λ byte. byte ≢ 58) domain
+HasText (Dns path domain) = IsPath path × IsDomain domain × All (λ byte. byte ≢ 58) domain
 HasText (Server target) = IsHost target.host × (1 ≤ target.port) × (target.port ≤ 65535)
 
 -- what is visited first of a source

@@ -1,9 +1,9 @@
 //! Sources, and the reader of their texts.
 
-ghost use Rattle.std.specs.Prelude.{◌≡◌, ◌≢◌, ◌++◌, List, ℕ, IfOk, IfSome, IfNone};
+ghost use Rattle.std.specs.Prelude.{◌≡◌, ◌≢◌, ◌++◌, List, ℕ, false, IfOk, IfSome, IfNone, IsTrue};
 ghost use Rattle.std.specs.List.{All};
 ghost use Rattle.sz_base.specs.Reading.{ReadsValue};
-ghost use Rattle.sz_source.specs.Source.{first_item, IsAnswerFor, IsPathOf, IsSource, IsSplit};
+ghost use Rattle.sz_source.specs.Source.{first_item, IsAnswerFor, IsDomain, IsPathOf, IsSource, IsSplit};
 
 use crate::Item;
 use std::alloc::Global;
@@ -32,7 +32,8 @@ pub type Sources = Items<Source>;
 
 impl Source {
     /// Reads a source: `usb:PATH`, `dhcp4:PATH`, `dhcp6:PATH`, `dns:PATH:DOMAIN` or `server:HOST:PORT`. A path is any
-    /// bytes, at least one; a domain is any bytes but colons, at least one. `Form` exactly where the text is none.
+    /// bytes, at least one; a domain is any bytes but colons, at least one and no point at its end. `Form` exactly where
+    /// the text is none.
     pub fn read(alloc: Global, word: &[u8]) -> Result<Self, BaseFault>
         ensures reads { ReadsValue (λ source. IsSource source word.now) result }
     {
@@ -95,9 +96,17 @@ fn answer_parts(text: &[u8]) -> Option<(&[u8], &[u8])>
     ensures none { IfNone result ((path domain : List ℕ) → ¬ IsAnswerFor text.now path domain) }
 {
     match at_last_colon(text) {
-        Some((path, domain)) if !path.is_empty() && !domain.is_empty() => Some((path, domain)),
+        Some((path, domain)) if !path.is_empty() && is_domain(domain) => Some((path, domain)),
         _ => None,
     }
+}
+
+// Whether a text without colons is a domain.
+fn is_domain(text: &[u8]) -> bool
+    ensures yes { IsTrue result → IsDomain text.now }
+    ensures no { result ≡ false → ¬ IsDomain text.now }
+{
+    !text.is_empty() && text.strip_suffix(b".").is_none()
 }
 
 // A path as it stands, where it has a byte.

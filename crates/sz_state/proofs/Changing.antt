@@ -13,20 +13,20 @@ use Rattle.sz_base.specs.declared.moment.Moment.{Moment}
 use Rattle.sz_artifacts.specs.declared.conveyed.onboarding.Onboarding.{Onboarding}
 use Rattle.sz_record.specs.Field.{longest}
 use Rattle.sz_record.specs.Spelling.{new_version, record_bytes}
-use Rattle.sz_record.specs.Stored.{IsStorable, IsStored, IsWithin}
+use Rattle.sz_record.specs.Stored.{HasWidths, IsStorable, IsStored, IsWithin}
 use Rattle.sz_record.specs.declared.device.Device.{Device}
 use Rattle.sz_record.specs.declared.device.Image.{Image}
 use Rattle.sz_record.proofs.Parts.{stored_is_storable}
 use Rattle.sz_state.specs.Change.{CanInstall, CanOnboard, IsChanged, NamesImage, NowHasImage, StandsThrough}
 use Rattle.sz_state.specs.Held.{IsHeld}
 use Rattle.sz_state.specs.Layout.{HasLayout, area_place, capacity_of, cell_place, space_of}
-use Rattle.sz_state.specs.Ran.{NowStands, RecordReplaced}
-use Rattle.sz_state.specs.Stands.{HasImage, Stands}
+use Rattle.sz_state.specs.Ran.{NowStands, NowStandsAnew, RecordReplaced}
+use Rattle.sz_state.specs.Stands.{HasImage, Stands, StandsAnew}
 use Rattle.sz_state.specs.Step.{installed_as, installed_by, once_installed, once_onboarded, other_area, staged_image, with_image}
 use Rattle.sz_state.specs.declared.staged.Staged.{Staged}
 use Rattle.sz_state.specs.declared.fault.StateFault.{StateFault}
 use Rattle.sz_state.specs.declared.held.Held.{Held}
-use Rattle.sz_state.proofs.Crash.{leaves-sized, ready-stands, stands_by}
+use Rattle.sz_state.proofs.Crash.{anew_by, leaves-sized, ready-anew, stands_by}
 use Rattle.sz_state.proofs.Lengths.{installed-storable, onboarded-storable}
 use Rattle.sz_state.proofs.Places.{region_within}
 
@@ -73,17 +73,19 @@ area_through old new kept named lawful torn low has =
 
 -- the stored form of the newer version
 pub stored_as : (space : ℕ) (device : Device) → IsStorable new_version device → IfSome device.image (IsWithin space)
-    → IsStored space (record_bytes new_version device) device
-stored_as space device storable within = record {
+    → HasWidths device → IsStored space (record_bytes new_version device) device
+stored_as space device storable within widths = record {
   version = new_version;
   known = inr refl;
   spelled = refl;
   storable = storable;
   within = within;
+  widths = widths;
 }
 
 module _ (old new : Seen) (held : Held) (after : Device) (next : List ℕ) (lawful : IsLawful old) (lawful_new : IsLawful new)
-    (is : IsHeld old held) (stored : IsStored (space_of old.size) next after) where
+    (is : IsHeld old held) (stored : IsStored (space_of old.size) next after)
+    (written : next ≡ record_bytes new_version after) where
   low : held.ready.at + region_size held.ready.capacity ≤ old.size / 4
   low =
       let same = ap (λ n. region_size n) is.capacity in
@@ -98,19 +100,19 @@ module _ (old new : Seen) (held : Held) (after : Device) (next : List ℕ) (lawf
 
   stands_either : (image : List ℕ) → MeansEither held.ready is.payload next image → length image ≡ old.size
       → InArea old.size held.device.image image → InArea old.size after.image image
-      → Stands image held.device ⊎ Stands image after
+      → Stands image held.device ⊎ StandsAnew image after
   stands_either image (inl means) sized one two =
       inl (stands_by old.size image held.device _ _ is.payload is.layout sized (placed image _ means) is.stored
       (from_area old.size held.device.image image sized one))
   stands_either image (inr means) sized one two =
-      inr (stands_by old.size image after _ _ next is.layout sized (placed image _ means) stored
-      (from_area old.size after.image image sized two))
+      inr (anew_by old.size image after _ _ next is.layout sized (placed image _ means) stored
+      (from_area old.size after.image image sized two) written)
 
   any_moment : LeavesOnly old new (MeansEither held.ready is.payload next)
       → TornIn held.ready.at (region_size held.ready.capacity) old new → NowStands old held.device → NowHasImage old after
-      → LeavesOnly old new (λ image. Stands image held.device ⊎ Stands image after)
+      → LeavesOnly old new (λ image. Stands image held.device ⊎ StandsAnew image after)
   any_moment means torn stands in_area =
-      leaves-weaker old new _ (λ image. Stands image held.device ⊎ Stands image after)
+      leaves-weaker old new _ (λ image. Stands image held.device ⊎ StandsAnew image after)
       (λ image facts. stands_either image facts.0.0 facts.0.1 facts.1.0 facts.1.1)
       (leaves-both_facts old new _ _
       (leaves-both_facts old new _ _ means (leaves-sized old new lawful_new torn.size torn.later))
@@ -122,8 +124,8 @@ module _ (old new : Seen) (held : Held) (after : Device) (next : List ℕ) (lawf
       → NowStands old held.device → NowHasImage old after → StandsThrough old new held.device after result
   through (Ok now) replaced stands in_area = record {
     any_moment = any_moment replaced.any_moment replaced.torn stands in_area;
-    ok = ready-stands new old.size after now.ready next lawful_new replaced.torn.size is.layout
-        (replaced.at ∙ is.at) (replaced.capacity ∙ is.capacity) replaced.ready stored
+    ok = ready-anew new old.size after now.ready next lawful_new replaced.torn.size is.layout
+        (replaced.at ∙ is.at) (replaced.capacity ∙ is.capacity) replaced.ready stored written
         (λ image left. from_area old.size after.image image (length-left new lawful_new image left ∙ replaced.torn.size)
         (leaves-now old new (InArea old.size after.image) lawful_new
         (area_through old new held.ready after.image lawful replaced.torn low in_area) image left));
@@ -150,9 +152,22 @@ module _ (old new : Seen) (held : Held) (after : Device) (next : List ℕ) (lawf
           ready = replaced.ready;
           stored = subst Q (sym same) (subst R (sym device) stored);
         };
+        written = written;
         settled = replaced.settled;
       }
   changed (Err fault) replaced device = tt
+
+-- what stands by a record of version 2 stands
+pub either-stands : (old new : Seen) (before after : Device)
+    → LeavesOnly old new (λ image. Stands image before ⊎ StandsAnew image after)
+    → LeavesOnly old new (λ image. Stands image before ⊎ Stands image after)
+either-stands old new before after leaves =
+    leaves-weaker old new (λ image. Stands image before ⊎ StandsAnew image after)
+    (λ image. Stands image before ⊎ Stands image after) one leaves
+  where
+    one : (image : List ℕ) → Stands image before ⊎ StandsAnew image after → Stands image before ⊎ Stands image after
+    one image (inl stands) = inl stands
+    one image (inr anew) = inr anew.stands
 
 other_area_by : (first : Bool) → (if first then 1 else 0) ≤ 1
 other_area_by true = omega arith

@@ -8,11 +8,11 @@ use Rattle.sz_cell.specs.Meaning.{value, meaning}
 use Rattle.sz_cell.specs.Transition.{MeansAsBeforeOr}
 use Rattle.sz_cell.proofs.States.{untold}
 use Rattle.sz_record.specs.Spelling.{new_version, record_bytes}
-use Rattle.sz_record.specs.Stored.{IsStored, IsStorable}
+use Rattle.sz_record.specs.Stored.{HasWidths, IsStored, IsStorable}
 use Rattle.sz_record.specs.declared.device.Device.{Device}
 use Rattle.sz_state.specs.Layout.{HasLayout, capacity_of, cell_place, space_of}
-use Rattle.sz_state.specs.Ran.{AsBeforeOrStands, NowStands}
-use Rattle.sz_state.specs.Stands.{HasImage, HasRecord, Stands}
+use Rattle.sz_state.specs.Ran.{AsBeforeOrStands, NowStandsAnew}
+use Rattle.sz_state.specs.Stands.{HasImage, HasRecord, Stands, StandsAnew}
 use Rattle.sz_state.specs.Step.{factory}
 
 -- images whose cell has this value
@@ -37,6 +37,30 @@ stands_by size image device slot sequence payload has sized means stored in_area
       in_area = in_area;
     }
 
+-- and whose payload is the form of version 2
+pub anew_by : (size : ℕ) (image : List ℕ) (device : Device) (slot sequence : ℕ) (payload : List ℕ) → HasLayout size
+    → length image ≡ size → meaning cell_place (capacity_of size) image ≡ value slot sequence payload
+    → IsStored (space_of size) payload device → IfSome device.image (HasImage image)
+    → payload ≡ record_bytes new_version device → StandsAnew image device
+anew_by size image device slot sequence payload has sized means stored in_area written =
+    let P : ℕ → Type 0 = λ s. HasLayout s in
+    let Q : ℕ → Type 0 = λ s. meaning cell_place (capacity_of s) image ≡ value slot sequence payload in
+    let R : ℕ → Type 0 = λ s. IsStored (space_of s) payload device in
+    record {
+      stands = record {
+        layout = subst P (sym sized) has;
+        sequence = sequence;
+        record_is = record {
+          slot = slot;
+          payload = payload;
+          means = subst Q (sym sized) means;
+          stored = subst R (sym sized) stored;
+        };
+        in_area = in_area;
+      };
+      written = written;
+    }
+
 -- each image that a crash might have left has the disk's size
 pub leaves-sized : (old new : Seen) → IsLawful new → new.size ≡ old.size → old.moment ≤ new.moment
     → LeavesOnly old new (λ image. length image ≡ old.size)
@@ -48,21 +72,24 @@ leaves-sized old new lawful size later = record {
 
 -- the first record is the stored form of the device as it is made
 pub first_stored : (space : ℕ) (identity : Identity) (payload : List ℕ)
-    → payload ≡ record_bytes new_version (factory identity) → IsStorable new_version (factory identity) → IsStored space payload (factory identity)
-first_stored space identity payload first storable = record {
+    → payload ≡ record_bytes new_version (factory identity) → IsStorable new_version (factory identity)
+    → HasWidths (factory identity) → IsStored space payload (factory identity)
+first_stored space identity payload first storable widths = record {
   version = new_version;
   known = inr refl;
   spelled = first;
   storable = storable;
   within = tt;
+  widths = widths;
 }
 
 -- the region as the disk is made
 pub initial-any_moment : (old new : Seen) (identity : Identity) (payload : List ℕ) → IsLawful new
     → new.size ≡ old.size → HasLayout old.size → IsStored (space_of old.size) payload (factory identity)
+    → payload ≡ record_bytes new_version (factory identity)
     → LeavesOnly old new (MeansAsBeforeOr cell_place (capacity_of old.size) old.leaves (value 0 1 payload))
     → LeavesOnly old new (AsBeforeOrStands old (factory identity))
-initial-any_moment old new identity payload lawful size has stored leaves =
+initial-any_moment old new identity payload lawful size has stored first leaves =
     leaves-weaker old new _ (AsBeforeOrStands old (factory identity))
     (λ image both. initial-image image both.0 both.1)
     (leaves-both_facts old new _ _ leaves (leaves-sized old new lawful size leaves.later))
@@ -72,7 +99,7 @@ initial-any_moment old new identity payload lawful size has stored leaves =
         → length image ≡ old.size → AsBeforeOrStands old (factory identity) image
     initial-image image (inl before) sized = inl before
     initial-image image (inr means) sized =
-        inr (stands_by old.size image (factory identity) 0 1 payload has sized means stored tt)
+        inr (anew_by old.size image (factory identity) 0 1 payload has sized means stored tt first)
 
 -- what an image means in the cell's place
 ready-means : (size : ℕ) (kept : Kept) (payload image : List ℕ) → kept.at ≡ cell_place → kept.capacity ≡ capacity_of size
@@ -89,15 +116,15 @@ ready-record disk size device kept payload lawful same at capacity ready stored 
     let means = ready-means size kept payload image at capacity (ready.means image left) in
     has_record_by size image device kept.slot kept.sequence payload sized means stored
 
--- a cell that is ready with the first record
-pub ready-stands : (disk : Seen) (size : ℕ) (device : Device) (kept : Kept) (payload : List ℕ) → IsLawful disk
+-- a cell that is ready with a record that was written
+pub ready-anew : (disk : Seen) (size : ℕ) (device : Device) (kept : Kept) (payload : List ℕ) → IsLawful disk
     → disk.size ≡ size → HasLayout size → kept.at ≡ cell_place → kept.capacity ≡ capacity_of size
-    → IsReady disk kept payload → IsStored (space_of size) payload device
-    → ((image : List ℕ) → disk.leaves image → IfSome device.image (HasImage image)) → NowStands disk device
-ready-stands disk size device kept payload lawful same has at capacity ready stored in_area image left =
+    → IsReady disk kept payload → IsStored (space_of size) payload device → payload ≡ record_bytes new_version device
+    → ((image : List ℕ) → disk.leaves image → IfSome device.image (HasImage image)) → NowStandsAnew disk device
+ready-anew disk size device kept payload lawful same has at capacity ready stored written in_area image left =
     let sized : length image ≡ size = lawful.sized disk.moment image ((lawful.now image).0 left) ∙ same in
     let means = ready-means size kept payload image at capacity (ready.means image left) in
-    stands_by size image device kept.slot kept.sequence payload has sized means stored (in_area image left)
+    anew_by size image device kept.slot kept.sequence payload has sized means stored (in_area image left) written
 
 -- a disk that tells nothing is ready with anything of this length
 pub ready_untold : (disk : Seen) (kept : Kept) (payload : List ℕ) → IsLawful disk → disk.reads ≡ None

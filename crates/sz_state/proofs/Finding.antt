@@ -12,7 +12,7 @@ use Rattle.sz_cell.specs.declared.fault.FormatFault.{FormatFault}
 use Rattle.sz_cell.specs.declared.fault.FormatFault.TheVariants.{Failed as format_fault, InUse as cell_in_use}
 use Rattle.sz_record.specs.Fault.{IsBadAt}
 use Rattle.sz_record.specs.Spelling.{new_version, record_bytes}
-use Rattle.sz_record.specs.Stored.{IsStorable, IsStored}
+use Rattle.sz_record.specs.Stored.{HasWidths, IsStorable, IsStored}
 use Rattle.sz_state.specs.Fault.{of_attach, of_format}
 use Rattle.sz_state.specs.Held.{IsReadFault, IsRecordFault, ReadHas}
 use Rattle.sz_state.specs.Layout.{HasLayout, IsLayout, capacity_of, cell_place, space_of}
@@ -23,7 +23,7 @@ use Rattle.sz_state.specs.declared.areas.Layout.{Layout}
 use Rattle.sz_state.specs.declared.fault.StateFault.{StateFault}
 use Rattle.sz_state.specs.declared.fault.StateFault.TheVariants.{Failed, NotInitialised, Damaged, BadRecord, InUse, Exhausted, OutOfMemory, TooLarge}
 use Rattle.sz_state.specs.declared.held.Held.{Held}
-use Rattle.sz_state.proofs.Crash.{first_stored, ready-record, ready-stands}
+use Rattle.sz_state.proofs.Crash.{first_stored, ready-anew, ready-record}
 
 -- the cell as the layout places it
 pub read_placed : (size : ℕ) (layout : Layout) (reads : Option (List ℕ)) (m : Meaning) → IsLayout size layout
@@ -124,12 +124,14 @@ factory_storable identity whole = record {
 
 -- a disk whose cell was made with it
 pub made : (old new : Seen) (identity : Identity) (payload : List ℕ) → IsLawful new → new.size ≡ old.size
-    → HasLayout old.size → IsWhole identity → payload ≡ record_bytes new_version (factory identity)
+    → HasLayout old.size → IsWhole identity → HasWidths (factory identity)
+    → payload ≡ record_bytes new_version (factory identity)
     → Formatted cell_place (capacity_of old.size) old new payload → IsInitialised new identity
-made old new identity payload lawful same has whole first cell =
-    let stored = first_stored (space_of old.size) identity payload first (factory_storable identity whole) in
+made old new identity payload lawful same has whole widths first cell =
+    let stored = first_stored (space_of old.size) identity payload first (factory_storable identity whole) widths in
     record {
-      stands = ready-stands new old.size (factory identity) _ payload lawful same has refl refl cell.ready stored (λ image left. tt);
+      stands = ready-anew new old.size (factory identity) _ payload lawful same has refl refl cell.ready stored first
+          (λ image left. tt);
       first = ready-record new old.size (factory identity) _ payload lawful same refl refl cell.ready stored;
       settled = cell.settled;
     }

@@ -9,6 +9,7 @@ use Rattle.sz_cell.specs.Transition.{Formatted, IsInUse, MeansAsBeforeOr}
 use Rattle.sz_cell.specs.declared.fault.FormatFault.{FormatFault}
 use Rattle.sz_cell.specs.declared.fault.FormatFault.TheVariants.{Failed as format_fault, InUse as cell_in_use}
 use Rattle.sz_record.specs.Spelling.{new_version, record_bytes}
+use Rattle.sz_record.specs.Stored.{HasWidths}
 use Rattle.sz_state.specs.Fault.{of_format}
 use Rattle.sz_state.specs.Layout.{HasLayout, IsLayout, capacity_of, cell_place, space_of}
 use Rattle.sz_state.specs.Fitting.{Fits}
@@ -21,12 +22,12 @@ use Rattle.sz_state.proofs.Finding.{factory_storable, format_refused, made}
 
 module _ (old new : Seen) (identity : Identity) (payload : List ℕ) (layout : Layout) (lawful : IsLawful new)
     (same : new.size ≡ old.size) (has : HasLayout old.size) (is : IsLayout old.size layout) (whole : IsWhole identity)
-    (first : payload ≡ record_bytes new_version (factory identity)) where
+    (widths : HasWidths (factory identity)) (first : payload ≡ record_bytes new_version (factory identity)) where
   pub made_at : Formatted layout.cell.at layout.cell.capacity old new payload → IsInitialised new identity
   made_at cell =
       let P : ℕ → Type 0 = λ at. Formatted at layout.cell.capacity old new payload in
       let Q : ℕ → Type 0 = λ capacity. Formatted cell_place capacity old new payload in
-      made old new identity payload lawful same has whole first (subst Q is.capacity (subst P is.at cell))
+      made old new identity payload lawful same has whole widths first (subst Q is.capacity (subst P is.at cell))
 
   pub made-any_moment : LeavesOnly old new
       (MeansAsBeforeOr layout.cell.at layout.cell.capacity old.leaves (value 0 1 payload))
@@ -36,8 +37,8 @@ module _ (old new : Seen) (identity : Identity) (payload : List ℕ) (layout : L
       (MeansAsBeforeOr at layout.cell.capacity old.leaves (value 0 1 payload)) in
       let Q : ℕ → Type 0 = λ capacity. LeavesOnly old new
       (MeansAsBeforeOr cell_place capacity old.leaves (value 0 1 payload)) in
-      let stored = first_stored (space_of old.size) identity payload first (factory_storable identity whole) in
-      initial-any_moment old new identity payload lawful same has stored (subst Q is.capacity (subst P is.at leaves))
+      let stored = first_stored (space_of old.size) identity payload first (factory_storable identity whole) widths in
+      initial-any_moment old new identity payload lawful same has stored first (subst Q is.capacity (subst P is.at leaves))
 
 pub not_made : (old new : Seen) (identity : Identity) (layout : Layout) (fault : FormatFault) → IsLayout old.size layout
     → ((slot : ℕ) → fault ≡ cell_in_use slot → IsInUse layout.cell.at layout.cell.capacity slot old new)

@@ -13,7 +13,7 @@ use Rattle.sz_record.specs.declared.device.Device.{Device}
 use Rattle.sz_state.specs.Change.{ChangeAnswered, StandsThrough}
 use Rattle.sz_state.specs.Fault.{of_clear}
 use Rattle.sz_state.specs.Ran.{NowStands, RecordReplaced}
-use Rattle.sz_state.specs.Stands.{Stands}
+use Rattle.sz_state.specs.Stands.{Stands, StandsAnew}
 use Rattle.sz_state.specs.declared.fault.StateFault.{StateFault}
 use Rattle.sz_state.specs.declared.held.Held.{Held}
 
@@ -71,7 +71,7 @@ replaced-not disk kept before next refusal lawful ready = record {
 pub stands-not : (disk : Seen) (before after : Device) (refusal : StateFault) → IsLawful disk → NowStands disk before
     → StandsThrough {T = Held} {E = StateFault} disk disk before after (Err refusal)
 stands-not disk before after refusal lawful stands = record {
-  any_moment = leaves-none disk (λ image. Stands image before ⊎ Stands image after) lawful
+  any_moment = leaves-none disk (λ image. Stands image before ⊎ StandsAnew image after) lawful
       (λ image left. inl (stands image left));
   ok = tt;
 }

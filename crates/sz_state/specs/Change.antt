@@ -5,12 +5,13 @@ use Rattle.sz_base.specs.declared.moment.Moment.{Moment}
 use Rattle.sz_artifacts.specs.declared.conveyed.onboarding.BootImage.{BootImage}
 use Rattle.sz_artifacts.specs.declared.conveyed.onboarding.Onboarding.{Onboarding}
 use Rattle.sz_disk.specs.Disk.{Seen, IsSettled, LeavesOnly}
+use Rattle.sz_record.specs.Spelling.{new_version, record_bytes}
 use Rattle.sz_record.specs.declared.device.Device.{Device}
 use Rattle.sz_state.specs.Fitting.{Fits}
 use Rattle.sz_state.specs.Held.{IsHeld}
 use Rattle.sz_state.specs.Layout.{capacity_of, space_of}
-use Rattle.sz_state.specs.Ran.{NowStands}
-use Rattle.sz_state.specs.Stands.{HasImage, Stands}
+use Rattle.sz_state.specs.Ran.{NowStandsAnew}
+use Rattle.sz_state.specs.Stands.{HasImage, Stands, StandsAnew}
 use Rattle.sz_state.specs.Step.{IsSatisfied, once_onboarded, other_area, staged_image, with_image}
 use Rattle.sz_state.specs.declared.fault.StateFault.{StateFault}
 use Rattle.sz_state.specs.declared.fault.StateFault.TheVariants.{Failed, NotInitialised, Damaged, BadRecord, InUse, Exhausted, OutOfMemory, TooLarge}
@@ -55,17 +56,18 @@ pub record CanInstall (size : ℕ) (device : Device) (staged : Staged) (onboardi
 abbrev pub NowHasImage : Seen → Device → Type 0
 NowHasImage disk device = (image : List ℕ) → disk.leaves image → IfSome device.image (HasImage image)
 
--- The device that was found is now this one, and everything is synced.
+-- The device that was found is now this one, its record is the form of version 2, and everything is synced.
 pub record IsChanged (disk : Seen) (after : Device) (held : Held) : Type 0 where
   pub device : held.device ≡ after
   pub found : IsHeld disk held
+  pub written : found.payload ≡ record_bytes new_version after
   pub settled : IsSettled disk
 
--- Each image that a crash at any moment might leave stands for the device before or for the one after, and after
--- success every image stands for the one after.
+-- Each image that a crash at any moment might leave stands for the device before, or for the one after by a record of
+-- version 2, and after success every image stands for the one after.
 pub record StandsThrough {T E : Type 0} (old new : Seen) (before after : Device) (result : Result T E) : Type 0 where
-  pub any_moment : LeavesOnly old new (λ image. Stands image before ⊎ Stands image after)
-  pub ok : OnOk result (NowStands new after)
+  pub any_moment : LeavesOnly old new (λ image. Stands image before ⊎ StandsAnew image after)
+  pub ok : OnOk result (NowStandsAnew new after)
 
 -- What `install` and `onboard` answer, where the record has this sequence: `Exhausted` where it is the last one, unless
 -- memory ran out before; and else that the device is changed, that the disk failed, or that memory ran out.

@@ -14,7 +14,7 @@ use Rattle.sz_record.specs.declared.device.Device.{Device}
 use Rattle.sz_state.specs.Fitting.{Fits}
 use Rattle.sz_state.specs.Layout.{capacity_of, cell_place}
 use Rattle.sz_state.specs.Held.{IsHeld, ReadHas}
-use Rattle.sz_state.specs.Stands.{HasBadRecord, HasRecord, Stands}
+use Rattle.sz_state.specs.Stands.{HasBadRecord, HasRecord, Stands, StandsAnew}
 use Rattle.sz_state.specs.Step.{factory}
 use Rattle.sz_state.specs.declared.fault.StateFault.{StateFault}
 use Rattle.sz_state.specs.declared.fault.StateFault.TheVariants.{Failed, NotInitialised, Damaged, BadRecord, InUse, Exhausted, OutOfMemory, TooLarge}
@@ -24,12 +24,17 @@ use Rattle.sz_state.specs.declared.held.Held.{Held}
 abbrev pub NowStands : Seen → Device → Type 0
 NowStands disk device = (image : List ℕ) → disk.leaves image → Stands image device
 
--- an image means what one means that a crash might have left before, or it stands for the device
+-- every image that a crash now may leave stands for the device by a record of version 2
+abbrev pub NowStandsAnew : Seen → Device → Type 0
+NowStandsAnew disk device = (image : List ℕ) → disk.leaves image → StandsAnew image device
+
+-- An image means what one means that a crash might have left before, or it stands for the device by a record of
+-- version 2.
 abbrev pub AsBeforeOrStands : Seen → Device → List ℕ → Type 0
 AsBeforeOrStands old device image =
     ((before : List ℕ) × old.leaves before
     × (meaning cell_place (capacity_of old.size) image ≡ meaning cell_place (capacity_of old.size) before))
-    ⊎ Stands image device
+    ⊎ StandsAnew image device
 
 -- the stored form of the device has this size, capped, and does not fit
 pub record IsTooLarge (capacity : ℕ) (device : Device) (found : ℕ) : Type 0 where
@@ -45,9 +50,10 @@ IsNoRecord capacity device fault =
 abbrev pub IsEarly : StateFault → Type 0
 IsEarly fault = (fault ≡ OutOfMemory) ⊎ ((found : ℕ) × (fault ≡ TooLarge found))
 
--- every image stands for the device as it is made, by a record with the first sequence, and everything is synced
+-- Every image stands for the device as it is made, by a record of version 2 with the first sequence, and everything is
+-- synced.
 pub record IsInitialised (disk : Seen) (identity : Identity) : Type 0 where
-  pub stands : NowStands disk (factory identity)
+  pub stands : NowStandsAnew disk (factory identity)
   pub first : (image : List ℕ) → disk.leaves image → HasRecord image (factory identity) 1
   pub settled : IsSettled disk
 

@@ -4,6 +4,7 @@ use Rattle.sha2.specs.Sha256.{sha256}
 use Rattle.sz_disk.specs.Image.{part}
 use Rattle.sz_cell.specs.Meaning.{value, meaning}
 use Rattle.sz_record.specs.Fault.{IsBadAt}
+use Rattle.sz_record.specs.Spelling.{new_version, record_bytes}
 use Rattle.sz_record.specs.Stored.{IsStored}
 use Rattle.sz_record.specs.declared.device.Device.{Device}
 use Rattle.sz_record.specs.declared.device.Image.{Image}
@@ -38,3 +39,8 @@ pub record Stands (image : List ℕ) (device : Device) : Type 0 where
   pub sequence : ℕ
   pub record_is : HasRecord image device sequence
   pub in_area : IfSome device.image (HasImage image)
+
+-- the disk stands for this device by a record of version 2, the one that is written
+pub record StandsAnew (image : List ℕ) (device : Device) : Type 0 where
+  pub stands : Stands image device
+  pub written : stands.record_is.payload ≡ record_bytes new_version device

@@ -19,7 +19,7 @@ use sz_artifacts::{BootImage, Onboarding};
 use sz_base::{Evidence, Moment, OutOfMemory, Text};
 use sz_cell::Ready;
 use sz_disk::Disk;
-use sz_record::{Committed, Device, Image, write};
+use sz_record::{Committed, Device, Image, device_widths, write};
 
 /// Puts a staged image in place: from then on the device runs what the information names, as far as it names it. It
 /// takes its memory before it calls the disk, and replaces the record whole. `Exhausted` where the record has the last
@@ -46,6 +46,7 @@ pub fn install<D: Disk>(
 {
     let Held { device, ready } = held;
     let device = with_image(alloc, device, staged, onboarding, evidence, when)?;
+    device_widths(&device);
     replace(alloc, disk, ready, device)
 }
 
@@ -72,6 +73,7 @@ pub fn onboard<D: Disk>(
 {
     let Held { device, ready } = held;
     let device = committed(device, onboarding, evidence, when);
+    device_widths(&device);
     replace(alloc, disk, ready, device)
 }
 

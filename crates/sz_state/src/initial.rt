@@ -6,6 +6,7 @@ ghost use Rattle.sz_spec.specs.Cause.{HasCause};
 ghost use Rattle.sz_cell.specs.Cell.{NoneOpen};
 ghost use Rattle.sz_disk.specs.Disk.{IsStill, LeavesOnly};
 ghost use Rattle.sz_record.specs.Spelling.{new_version, record_bytes};
+ghost use Rattle.sz_record.specs.Stored.{HasWidths};
 ghost use Rattle.sz_state.specs.Fault.{state_failed};
 ghost use Rattle.sz_state.specs.Layout.{HasLayout, capacity_of, cell_place};
 ghost use Rattle.sz_state.specs.Ran.{AsBeforeOrStands, FitsUnlessTold, IsEarly, IsNoRecord, Made};
@@ -15,7 +16,7 @@ use crate::{Layout, StateFault};
 use std::alloc::Global;
 use sz_base::{Bytes, Identity, OutOfMemory};
 use sz_disk::Disk;
-use sz_record::{Device, size, write};
+use sz_record::{Device, device_widths, size, write};
 
 /// Makes a disk stand for a device with this identity as it is made. `TooLarge` exactly where its record does not fit
 /// the cell; `InUse` where, after a sync, a gate of the cell is open. It takes its memory before it calls the disk, and
@@ -44,10 +45,12 @@ pub fn init<D: Disk>(alloc: Global, disk: &mut D, identity: &Identity) -> Result
 fn factory_record(alloc: Global, identity: &Identity, capacity: u32) -> Result<Bytes, StateFault>
     requires { IsWhole identity.now }
     ensures first { IfOk result (λ written. written ≡ record_bytes new_version (factory identity.now)) }
+    ensures wide { IfOk result (λ written. HasWidths (factory identity.now)) }
     ensures fits { IfOk result (λ written. length written ≤ capacity) }
     ensures refused { IfErr result (IsNoRecord capacity (factory identity.now)) }
 {
     let device = factory(alloc, identity)?;
+    device_widths(&device);
     let size = size(&device);
     if size > u64::from(capacity) {
         return Err(StateFault::TooLarge { size });

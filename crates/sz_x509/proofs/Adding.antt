@@ -1,14 +1,14 @@
 -- What the value of one extension adds to what earlier ones restrict a certificate to.
-use Rattle.std.proofs.Common.{◌≡◌, ℕ, inl, inr, Bool, true, false, List, [], ◌∷◌, ◌++◌, Option, Some, None, refl, sym, ap, ◌∙◌}
 use Rattle.std.specs.Prelude.{bytes_eq, option_map}
 use Rattle.std.specs.List.{find, list_any}
+use Rattle.std.proofs.Common.{◌≡◌, ℕ, inl, inr, Bool, true, false, List, [], ◌∷◌, ◌++◌, Option, Some, None, refl, sym, ap, ◌∙◌}
 use Rattle.std.proofs.lemmas.Bool.{cases_Bool, or_parts}
+use Rattle.sz_der.specs.Spots.{content_at, inside, Spot}
+use Rattle.sz_der.proofs.Octets.{same_bytes}
 use Rattle.sz_x509.specs.CertFault.{flag_at, identifier_at, path_length_spot, stands_among, value_spot}
 use Rattle.sz_x509.specs.CertPlaces.{Adds, ca_at, has_identifier, key_id_at, path_len_at, path_length_at, RestrictedAt, UsageAt, value_among}
 use Rattle.sz_x509.specs.Extensions.{Restrictions}
-use Rattle.sz_x509.specs.Parts.{content_at, inside, Spot}
 use Rattle.sz_x509.specs.declared.identifier.TheConstants.{BASIC_CONSTRAINTS, KEY_USAGE, SUBJECT_KEY_IDENTIFIER}
-use Rattle.sz_x509.proofs.Values.{same_bytes}
 
 -- ---- by the identifier
 

@@ -1,75 +1,23 @@
 -- Parts that need not be there, and extensions one after another: what has no fault is spelled as its relation says,
 -- and what is spelled so has none.
 use Rattle.std.proofs.Common.{◌≡◌, ℕ, inl, inr, ◌<◌, ◌^◌, Bool, true, false, List, [], ◌∷◌, ◌++◌, Option, Some, None, refl, sym, ap, subst, ◌∙◌, arith}
-use Rattle.std.proofs.lemmas.Bool.{and_left, and_right, and_parts, and_from, cases_Bool, eqb-true, eq-eqb, ne_eqb, not_from_false}
+use Rattle.std.proofs.lemmas.Bool.{and_left, cases_Bool}
 use Rattle.sz_der.specs.Content.{HoldsBits, IsBits}
 use Rattle.sz_der.specs.Der.{AreOctets, Der, number_of}
+use Rattle.sz_der.specs.Integer.{is_integer}
+use Rattle.sz_der.specs.Spots.{after, after_optional, content_at, inside, is_next, Spot, whole_at}
 use Rattle.sz_der.specs.declared.tag.TheConstants.{BIT_STRING, BOOLEAN, INTEGER, OCTET_STRING, SEQUENCE}
+use Rattle.sz_der.proofs.Optional.{absent, after_next, after_other, BeginsWithout, found_next, next_stands, Optional, present, without_item, without_nothing}
+use Rattle.sz_der.proofs.Spots.{end_from_nothing, found_part, holds_from_rule, inside-left, no_item-stands, no_part-stands, nothing_left, parts_of_none, rule_from_holds, stands}
+use Rattle.sz_der.proofs.Joined.{alone, and_then, Der_with, last}
+use Rattle.sz_der.proofs.IntegerTest.{integer_test}
 use Rattle.sz_x509.specs.Certificate.{IsUniqueId}
 use Rattle.sz_x509.specs.CertFault.{basic_constraints_fault, flag_at, flag_fault, key_identifier_fault, key_usage_fault, path_length_fault, path_length_spot, unique_id_fault}
 use Rattle.sz_x509.specs.CertPlaces.{path_length_at}
-use Rattle.sz_x509.specs.Contents.{is_bits, is_boolean, is_integer, is_true_content, is_u32}
+use Rattle.sz_x509.specs.Contents.{is_bits, is_boolean, is_true_content, is_u32}
 use Rattle.sz_x509.specs.Extensions.{IsBasicConstraints, IsFlag, IsKeyUsage, IsPathLength}
-use Rattle.sz_x509.specs.Parts.{after, after_optional, content_at, inside, is_at_end, is_next, no_item, Spot, tag_at, whole_at}
 use Rattle.sz_x509.specs.declared.fault.CertKind.TheVariants as kinds
-use Rattle.sz_x509.proofs.Spots.{end_from_nothing, Found, found, found_part, holds_from_rule, inside-left, no_part-stands, nothing_left, parts_of_none, rule_from_holds, Stands, stands}
-use Rattle.sz_x509.proofs.Spelled.{alone, and_then, Der_with, last}
-use Rattle.sz_x509.proofs.Values.{bits_test, boolean_test, boolean_value, integer_test, IsBits_from_test, IsBoolean_from_test, IsIntegerOf_from_tests, number_is, u32_test}
-
--- ---- an item that need not be there
-
-pub after_next : (tag : ℕ) (spot : Spot) → is_next tag spot ≡ true → after_optional tag spot ≡ after spot
-unfolding after_optional
-after_next tag spot next = rw next refl
-
-pub after_other : (tag : ℕ) (spot : Spot) → is_next tag spot ≡ false → after_optional tag spot ≡ spot
-unfolding after_optional
-after_other tag spot other = rw other refl
-
-pub next_tag : (tag : ℕ) (spot : Spot) → is_next tag spot ≡ true → tag_at spot ≡ tag
-unfolding is_next
-next_tag tag spot next = eqb-true (tag_at spot) tag (and_parts _ _ next).1
-
-pub next_stands : (spot : Spot) (tag : ℕ) (content whole rest : List ℕ) → Stands spot tag content whole rest → is_next tag spot ≡ true
-unfolding is_next
-next_stands spot tag content whole rest here =
-    and_from _ _ (not_from_false (is_at_end spot) here.is_some) (eq-eqb (tag_at spot) tag here.tag_is)
-
--- what begins with no item of this tag
-abbrev pub BeginsWithout : ℕ → List ℕ → Type 0
-BeginsWithout tag bytes = (spot : Spot) → spot.left ≡ bytes → is_next tag spot ≡ false
-
-pub without_nothing : (tag : ℕ) → BeginsWithout tag []
-unfolding is_next is_at_end
-without_nothing tag spot nothing = rw nothing refl
-
-pub without_item : (tag other : ℕ) (content whole rest : List ℕ) → Der other content whole → (other ≡ tag → ⊥) → BeginsWithout tag (whole ++ rest)
-unfolding is_next
-without_item tag other content whole rest item differ spot joined =
-    let here = stands spot other content whole rest item joined in
-    let not_tag : tag_at spot ≡ tag → ⊥ = λ e. differ (sym here.tag_is ∙ e) in
-    and_right _ _ (ne_eqb (tag_at spot) tag not_tag)
-
--- what is spelled at a spot where an item with this tag may stand, and what follows it
-pub record Optional (spot : Spot) (tag : ℕ) (IsPiece : List ℕ → Type 0) : Type 0 where
-  pub piece : List ℕ
-  pub is_piece : IsPiece piece
-  pub joined : spot.left ≡ piece ++ (after_optional tag spot).left
-  pub after : AreOctets (after_optional tag spot).left
-
-pub absent : (spot : Spot) (tag : ℕ) (IsPiece : List ℕ → Type 0) → AreOctets spot.left → is_next tag spot ≡ false → IsPiece [] → Optional spot tag IsPiece
-absent spot tag IsPiece fits other is =
-    let stays = after_other tag spot other in
-    record { piece = []; is_piece = is; joined = rw stays refl; after = rw stays fits }
-
-pub present : (spot : Spot) (tag : ℕ) (IsPiece : List ℕ → Type 0) → Found spot tag → is_next tag spot ≡ true → IsPiece (whole_at spot) →
-    Optional spot tag IsPiece
-present spot tag IsPiece here next is =
-    let moves = after_next tag spot next in
-    record { piece = whole_at spot; is_piece = is; joined = rw moves here.joined; after = rw moves here.after }
-
-pub found_next : (tag : ℕ) (spot : Spot) → AreOctets spot.left → is_next tag spot ≡ true → no_item kinds.Der spot ≡ None → Found spot tag
-found_next tag spot fits next n = subst (λ (t : ℕ). Found spot t) (next_tag tag spot next) (found kinds.Der spot fits n)
+use Rattle.sz_x509.proofs.Values.{bits_test, boolean_test, boolean_value, IsBits_from_test, IsBoolean_from_test, IsIntegerOf_from_tests, number_is, u32_test}
 
 -- ---- issuerUniqueID and subjectUniqueID
 
@@ -79,7 +27,7 @@ IsUniqueId_from_none tag spot fits n =
     elim (cases_Bool (is_next tag spot)) [
       | inl next ↦
           let a = parts_of_none _ _ (rw next at n) in
-          let here = found_next tag spot fits next a.0 in
+          let here = found_next _ tag spot fits next a.0 in
           present spot tag (IsUniqueId tag) here next (inr (content_at spot, here.is_item))
       | inr other ↦ absent spot tag (IsUniqueId tag) fits other (inl refl)
     ]
@@ -94,7 +42,7 @@ unique_id_clear tag spot piece rest (inl nothing) without joined =
 unique_id_clear tag spot piece rest (inr item) without joined =
     let here = stands spot tag item.0 piece rest item.1 joined in
     let next = next_stands spot tag item.0 piece rest here in
-    (rw (next, here.is_item) refl, rw (after_next tag spot next) here.after_is)
+    (rw (next, no_item-stands kinds.Der here) refl, rw (after_next tag spot next) here.after_is)
 
 pub without_unique_id : (tag other : ℕ) (piece rest : List ℕ) → IsUniqueId other piece → (other ≡ tag → ⊥) → BeginsWithout tag rest →
     BeginsWithout tag (piece ++ rest)
@@ -118,7 +66,7 @@ IsFlag_from_none spot fits n =
       | inl next ↦
           let a = parts_of_none _ _ (rw next at n) in
           let b = parts_of_none _ _ a.1 in
-          let here = found_next BOOLEAN spot fits next a.0 in
+          let here = found_next _ BOOLEAN spot fits next a.0 in
           let is = IsBoolean_from_test (content_at spot) (holds_from_rule (is_boolean (content_at spot)) kinds.Der spot b.0) in
           present spot BOOLEAN (IsFlag (flag_at spot)) here next (inr (content_at spot, rw (flag_at-next spot next) is, here.is_item))
       | inr other ↦ absent spot BOOLEAN (IsFlag (flag_at spot)) fits other (inl (refl, flag_at-other spot other))
@@ -135,7 +83,7 @@ flag_clear spot flag piece rest (inr item) without joined =
     let here = stands spot BOOLEAN item.0 piece rest item.2 joined in
     let next = next_stands spot BOOLEAN item.0 piece rest here in
     let test : is_boolean (content_at spot) ≡ true = rw here.content_is (boolean_test flag item.0 item.1) in (
-      rw (next, here.is_item, rule_from_holds (is_boolean (content_at spot)) kinds.Der spot test) refl,
+      rw (next, no_item-stands kinds.Der here, rule_from_holds (is_boolean (content_at spot)) kinds.Der spot test) refl,
       flag_at-next spot next ∙ ap is_true_content here.content_is ∙ boolean_value flag item.0 item.1,
       rw (after_next BOOLEAN spot next) here.after_is,
     )
@@ -159,7 +107,7 @@ IsPathLength_from_none spot fits n =
           let a = parts_of_none _ _ (rw next at n) in
           let b = parts_of_none _ _ a.1 in
           let c = parts_of_none _ _ b.1 in
-          let here = found_next INTEGER spot fits next a.0 in
+          let here = found_next _ INTEGER spot fits next a.0 in
           let octets : AreOctets (content_at spot) = subst AreOctets (inside-left spot) here.inside in
           let is = IsIntegerOf_from_tests (content_at spot) octets (holds_from_rule (is_integer (content_at spot)) kinds.Der spot b.0)
           (holds_from_rule (is_u32 (content_at spot)) kinds.Extension spot c.0) in
@@ -182,7 +130,7 @@ path_length_clear spot (Some n) piece rest (below, item) without joined =
     let fits : is_u32 (content_at spot) ≡ true = rw here.content_is (u32_test n item.0 below item.1) in (
       rw (
         next,
-        here.is_item,
+        no_item-stands kinds.Der here,
         rule_from_holds (is_integer (content_at spot)) kinds.Der spot minimal,
         rule_from_holds (is_u32 (content_at spot)) kinds.Extension spot fits,
       ) refl,
@@ -199,11 +147,11 @@ IsBasicConstraints_from_none spot fits n =
     let c = parts_of_none _ _ b.1 in
     let d = parts_of_none _ _ c.1 in
     let e = parts_of_none _ _ d.1 in
-    let sequence = found_part kinds.Der SEQUENCE spot fits a.0 in
+    let sequence = found_part _ _ SEQUENCE spot fits a.0 in
     let flag = IsFlag_from_none (inside spot) sequence.inside b.0 in
     let path = IsPathLength_from_none (path_length_spot spot) flag.after c.0 in
-    let only = last path.piece path.joined (nothing_left kinds.Der (after_optional INTEGER (path_length_spot spot)) d.0) in
-    let whole = last (whole_at spot) sequence.joined (nothing_left kinds.Der (after spot) e.0) in
+    let only = last path.piece path.joined (nothing_left _ _ (after_optional INTEGER (path_length_spot spot)) d.0) in
+    let whole = last (whole_at spot) sequence.joined (nothing_left _ _ (after spot) e.0) in
     let item = Der_with (sym (inside-left spot) ∙ and_then flag.piece flag.joined only) sequence.is_item in
     record {
       flag = flag.piece;
@@ -227,11 +175,11 @@ basic_constraints_clear spot ca path_len value is left =
     let flag = flag_clear (inside spot) ca is.flag is.path is.is_flag (without_path_length path_len is.path is.is_path) sequence.inside_is in
     let path = path_length_clear (path_length_spot spot) path_len is.path [] is.is_path (without_nothing INTEGER) (alone is.path flag.2) in (
       rw (
-        no_part-stands kinds.Der spot SEQUENCE (is.flag ++ is.path) value [] sequence,
+        no_part-stands kinds.Der kinds.Der spot SEQUENCE (is.flag ++ is.path) value [] sequence,
         flag.0,
         path.0,
-        end_from_nothing kinds.Der (after_optional INTEGER (path_length_spot spot)) path.2,
-        end_from_nothing kinds.Der (after spot) sequence.after_is,
+        end_from_nothing kinds.Der kinds.Der (after_optional INTEGER (path_length_spot spot)) path.2,
+        end_from_nothing kinds.Der kinds.Der (after spot) sequence.after_is,
       ) refl,
       flag.1,
       path.1,
@@ -258,8 +206,8 @@ IsKeyUsage_from_none spot usage fits n below holds =
     let a = parts_of_none _ _ n in
     let b = parts_of_none _ _ a.1 in
     let c = parts_of_none _ _ b.1 in
-    let here = found_part kinds.Der BIT_STRING spot fits a.0 in
-    let whole = last (whole_at spot) here.joined (nothing_left kinds.Der (after spot) c.0) in
+    let here = found_part _ _ BIT_STRING spot fits a.0 in
+    let whole = last (whole_at spot) here.joined (nothing_left _ _ (after spot) c.0) in
     record {
       content = content_at spot;
       of_16_bits = below;
@@ -277,9 +225,9 @@ key_usage_clear spot usage value is left =
     let here = stands spot BIT_STRING is.content value [] is.is_item (alone value left) in
     let holds : HoldsBits (content_at spot) usage = rw here.content_is is.holds_bits in (
       rw (
-        no_part-stands kinds.Der spot BIT_STRING is.content value [] here,
+        no_part-stands kinds.Der kinds.Der spot BIT_STRING is.content value [] here,
         rule_from_holds (is_bits (content_at spot)) kinds.Der spot (bits_content_test (content_at spot) usage holds),
-        end_from_nothing kinds.Der (after spot) here.after_is,
+        end_from_nothing kinds.Der kinds.Der (after spot) here.after_is,
       ) refl,
       holds,
     )
@@ -289,8 +237,8 @@ unfolding key_identifier_fault
 IsKeyIdentifier_from_none spot fits n =
     let a = parts_of_none _ _ n in
     let b = parts_of_none _ _ a.1 in
-    let here = found_part kinds.Der OCTET_STRING spot fits a.0 in
-    let whole = last (whole_at spot) here.joined (nothing_left kinds.Der (after spot) b.0) in
+    let here = found_part _ _ OCTET_STRING spot fits a.0 in
+    let whole = last (whole_at spot) here.joined (nothing_left _ _ (after spot) b.0) in
     subst (λ (x : List ℕ). Der OCTET_STRING (content_at spot) x) (sym whole) here.is_item
 
 pub key_identifier_clear : (spot : Spot) (octets value : List ℕ) → Der OCTET_STRING octets value → spot.left ≡ value →
@@ -299,8 +247,8 @@ unfolding key_identifier_fault
 key_identifier_clear spot octets value is left =
     let here = stands spot OCTET_STRING octets value [] is (alone value left) in (
       rw (
-        no_part-stands kinds.Der spot OCTET_STRING octets value [] here,
-        end_from_nothing kinds.Der (after spot) here.after_is,
+        no_part-stands kinds.Der kinds.Der spot OCTET_STRING octets value [] here,
+        end_from_nothing kinds.Der kinds.Der (after spot) here.after_is,
       ) refl,
       here.content_is,
     )

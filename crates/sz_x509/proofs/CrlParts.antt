@@ -1,26 +1,28 @@
 -- The parts of revocation lists: what has no fault is spelled as its relation says, and what is spelled so has none.
-use Rattle.std.proofs.Common.{◌≡◌, ℕ, inl, inr, true, false, not, List, [], ◌∷◌, ◌++◌, length, Option, Some, None, refl, sym, ap, subst, ◌∙◌, arith, ℤ}
 use Rattle.std.specs.Prelude.{bytes_eq, map}
+use Rattle.std.proofs.Common.{◌≡◌, ℕ, inl, inr, true, false, not, List, [], ◌∷◌, ◌++◌, length, Option, Some, None, refl, sym, ap, subst, ◌∙◌, arith, ℤ}
 use Rattle.std.proofs.lemmas.Bool.{cases_Bool, not-true, not_from_false, or_from, or_left, or_right}
 use Rattle.sz_calendar.specs.CivilTime.{CivilTime}
 use Rattle.sz_der.specs.Der.{AreOctets}
 use Rattle.sz_der.specs.Time.{NamesTime}
+use Rattle.sz_der.specs.Integer.{is_integer}
+use Rattle.sz_der.specs.Spots.{after, after_optional, AreEach, content_at, inside, is_at_end, is_next, Spot, spots_from, whole_at}
 use Rattle.sz_der.specs.declared.tag.TheConstants.{CONTEXT_CONSTRUCTED, GENERALIZED_TIME, INTEGER, OBJECT_IDENTIFIER, OCTET_STRING, SEQUENCE, UTC_TIME}
+use Rattle.sz_der.proofs.Optional.{absent, after_next, after_other, BeginsWithout, found_next, next_stands, Optional, present, without_nothing}
+use Rattle.sz_der.proofs.Joined.{alone, and_then, Der_with, last}
+use Rattle.sz_der.proofs.Spots.{end_from_nothing, Found, found_part, holds_from_rule, inside-left, no_item-stands, no_part-stands, nothing_left, parts_of_none, rule_from_holds, stands, Stands}
+use Rattle.sz_der.proofs.Octets.{bytes_same, same_bytes}
 use Rattle.sz_x509.specs.CertFault.{flag_at, flag_spot, identifier_at, value_spot}
 use Rattle.sz_x509.specs.CertPlaces.{seconds_at}
-use Rattle.sz_x509.specs.Contents.{is_integer}
 use Rattle.sz_x509.specs.CrlFault.{after_next_update, all_passed_over_fault, entry_extensions_fault, entry_fault, is_time_next, list_extensions_fault, list_version_fault, next_update_fault, passed_over_fault, revoked_fault}
 use Rattle.sz_x509.specs.CrlPlaces.{BeginsEntry, entries_at, next_update_at}
 use Rattle.sz_x509.specs.Extensions.{Extension}
-use Rattle.sz_x509.specs.Parts.{after, after_optional, AreEach, content_at, inside, is_at_end, is_next, Spot, spots_from, whole_at}
 use Rattle.sz_x509.specs.RevocationList.{AreEntries, ArePassedOver, HasEntryExtensions, HasListExtensions, IsEntry, IsListVersion, IsNextUpdate, IsPassedOver, IsRevoked}
 use Rattle.sz_x509.specs.declared.fault.CertKind.TheVariants as kinds
-use Rattle.sz_x509.proofs.Chains.{absent, after_next, after_other, BeginsWithout, found_next, IsFlag_from_none, next_stands, Optional, present, without_nothing}
+use Rattle.sz_x509.proofs.Chains.{IsFlag_from_none}
 use Rattle.sz_x509.proofs.Each.{are_each, each_clear, IsClear}
 use Rattle.sz_x509.proofs.ExtensionLists.{extension_at, spelled, whole_some}
-use Rattle.sz_x509.proofs.Spelled.{alone, and_then, Der_with, IsSerial_from_none, IsTime_from_none, last, serial_clear, time_clear}
-use Rattle.sz_x509.proofs.Spots.{end_from_nothing, Found, found_part, holds_from_rule, inside-left, no_part-stands, nothing_left, parts_of_none, rule_from_holds, Stands, stands}
-use Rattle.sz_x509.proofs.Values.{bytes_same, same_bytes}
+use Rattle.sz_x509.proofs.Spelled.{IsSerial_from_none, IsTime_from_none, serial_clear, time_clear}
 
 -- ---- extensions that must not be critical
 
@@ -34,11 +36,11 @@ passed_over_reads spot fits n =
     let d = parts_of_none _ _ c.1 in
     let e = parts_of_none _ _ d.1 in
     let f = parts_of_none _ _ e.1 in
-    let sequence = found_part kinds.Der SEQUENCE spot fits a.0 in
-    let identifier = found_part kinds.Der OBJECT_IDENTIFIER (inside spot) sequence.inside b.0 in
+    let sequence = found_part _ _ SEQUENCE spot fits a.0 in
+    let identifier = found_part _ _ OBJECT_IDENTIFIER (inside spot) sequence.inside b.0 in
     let flag = IsFlag_from_none (flag_spot spot) identifier.after c.0 in
-    let value = found_part kinds.Der OCTET_STRING (value_spot spot) flag.after e.0 in
-    let only = last (whole_at (value_spot spot)) value.joined (nothing_left kinds.Der (after (value_spot spot)) f.0) in
+    let value = found_part _ _ OCTET_STRING (value_spot spot) flag.after e.0 in
+    let only = last (whole_at (value_spot spot)) value.joined (nothing_left _ _ (after (value_spot spot)) f.0) in
     let parts = and_then (whole_at (inside spot)) identifier.joined (and_then flag.piece flag.joined only) in (
       (
         record {
@@ -102,7 +104,7 @@ entry_extensions_read spot fits n =
       | inl next ↦
           let a = parts_of_none _ _ (rw next at n) in
           let b = parts_of_none _ _ a.1 in
-          let here = found_next SEQUENCE spot fits next a.0 in
+          let here = found_next _ SEQUENCE spot fits next a.0 in
           present spot SEQUENCE HasEntryExtensions here next (inr (sequence_reads spot here b.0))
       | inr other ↦ absent spot SEQUENCE HasEntryExtensions fits other (inl refl)
     ]
@@ -117,7 +119,7 @@ entry_extensions_clear spot piece (inr some) left =
     let here = stands spot SEQUENCE some.content piece [] some.is_sequence (alone piece left) in
     let next = next_stands spot SEQUENCE some.content piece [] here in
     let all = sequence_clear spot some.content some.extensions some.are_extensions here.inside_is in
-    (rw (next, here.is_item, all) refl, rw (after_next SEQUENCE spot next) here.after_is)
+    (rw (next, no_item-stands kinds.Der here, all) refl, rw (after_next SEQUENCE spot next) here.after_is)
 
 -- the serial number of the entry at a spot
 abbrev pub serial_at : Spot → List ℕ
@@ -131,11 +133,11 @@ entry_reads spot fits n =
     let c = parts_of_none _ _ b.1 in
     let d = parts_of_none _ _ c.1 in
     let e = parts_of_none _ _ d.1 in
-    let sequence = found_part kinds.Der SEQUENCE spot fits a.0 in
+    let sequence = found_part _ _ SEQUENCE spot fits a.0 in
     let number = IsSerial_from_none (inside spot) sequence.inside b.0 in
     let date = IsTime_from_none (after (inside spot)) number.1.after c.0 in
     let extensions = entry_extensions_read (after (after (inside spot))) date.1.after d.0 in
-    let only = last extensions.piece extensions.joined (nothing_left kinds.Der (after_optional SEQUENCE (after (after (inside spot)))) e.0) in
+    let only = last extensions.piece extensions.joined (nothing_left _ _ (after_optional SEQUENCE (after (after (inside spot)))) e.0) in
     let parts = and_then (whole_at (inside spot)) number.1.joined (and_then (whole_at (after (inside spot))) date.1.joined only) in (
       record {
         number = whole_at (inside spot);
@@ -165,7 +167,7 @@ has_entry spot serial whole rest is joined =
     let number = serial_clear (inside spot) serial is.number (is.date ++ is.extensions) is.is_number sequence.inside_is in
     let date = time_clear (after (inside spot)) is.seconds is.date is.extensions is.is_date number.1.after_is in
     let extensions = entry_extensions_clear (after (after (inside spot))) is.extensions is.has_extensions date.2 in
-    let part_is = no_part-stands kinds.Der spot SEQUENCE (is.number ++ (is.date ++ is.extensions)) whole rest sequence in
+    let part_is = no_part-stands kinds.Der kinds.Der spot SEQUENCE (is.number ++ (is.date ++ is.extensions)) whole rest sequence in
     record {
       begins = record { sequence = part_is; number = number.0 };
       serial_is = number.1.content_is;
@@ -174,7 +176,7 @@ has_entry spot serial whole rest is joined =
         number.0,
         date.0,
         extensions.0,
-        end_from_nothing kinds.Der (after_optional SEQUENCE (after (after (inside spot)))) extensions.1,
+        end_from_nothing kinds.Der kinds.Der (after_optional SEQUENCE (after (after (inside spot)))) extensions.1,
       ) refl;
       after = sequence.after_is;
       more = sequence.is_some;
@@ -202,7 +204,7 @@ revoked_reads spot fits n =
       | inl next ↦
           let a = parts_of_none _ _ (rw next at n) in
           let b = parts_of_none _ _ a.1 in
-          let here = found_next SEQUENCE spot fits next a.0 in
+          let here = found_next _ SEQUENCE spot fits next a.0 in
           let list = inside spot in
           let are = are_each IsEntry serial_at entry_fault entry_reads (length list.left) list (omega arith) here.inside b.0 in
           let entries = subst (λ (x : List ℕ). AreEntries (map serial_at (spots_from list)) x) (inside-left spot) are in
@@ -223,7 +225,7 @@ revoked_clear spot entries piece rest (inr some) without joined =
     let next = next_stands spot SEQUENCE entries piece rest here in
     let all = each_clear IsEntry entry_fault entry_clears (length (inside spot).left) (inside spot) some.0 (omega arith)
     (subst (λ (x : List ℕ). AreEntries some.0 x) (sym here.inside_is) some.1) in (
-      rw (next, here.is_item, all) refl,
+      rw (next, no_item-stands kinds.Der here, all) refl,
       entries_next spot next ∙ here.content_is,
       rw (after_next SEQUENCE spot next) here.after_is,
     )
@@ -238,7 +240,7 @@ list_version_reads spot fits n =
           let a = parts_of_none _ _ (rw next at n) in
           let b = parts_of_none _ _ a.1 in
           let c = parts_of_none _ _ b.1 in
-          let here = found_next INTEGER spot fits next a.0 in
+          let here = found_next _ INTEGER spot fits next a.0 in
           let is = same_bytes (content_at spot) (1 ∷ []) (holds_from_rule (bytes_eq (content_at spot) (1 ∷ [])) kinds.Version spot c.0) in
           present spot INTEGER IsListVersion here next (inr (Der_with is here.is_item))
       | inr other ↦ absent spot INTEGER IsListVersion fits other (inl refl)
@@ -257,7 +259,7 @@ list_version_clear spot piece rest (inr item) without joined =
     let minimal : is_integer (content_at spot) ≡ true = rw here.content_is refl in (
       rw (
         next,
-        here.is_item,
+        no_item-stands kinds.Der here,
         rule_from_holds (is_integer (content_at spot)) kinds.Der spot minimal,
         rule_from_holds (bytes_eq (content_at spot) (1 ∷ [])) kinds.Version spot (bytes_same (content_at spot) (1 ∷ []) here.content_is),
       ) refl,
@@ -273,9 +275,9 @@ list_extensions_read spot fits n =
           let b = parts_of_none _ _ a.1 in
           let c = parts_of_none _ _ b.1 in
           let d = parts_of_none _ _ c.1 in
-          let here = found_next CONTEXT_CONSTRUCTED spot fits next a.0 in
-          let sequence = found_part kinds.Der SEQUENCE (inside spot) here.inside b.0 in
-          let only = last (whole_at (inside spot)) sequence.joined (nothing_left kinds.Der (after (inside spot)) d.0) in
+          let here = found_next _ CONTEXT_CONSTRUCTED spot fits next a.0 in
+          let sequence = found_part _ _ SEQUENCE (inside spot) here.inside b.0 in
+          let only = last (whole_at (inside spot)) sequence.joined (nothing_left _ _ (after (inside spot)) d.0) in
           present spot CONTEXT_CONSTRUCTED HasListExtensions here next (inr (
             whole_at (inside spot),
             sequence_reads (inside spot) sequence c.0,
@@ -297,10 +299,10 @@ list_extensions_clear spot piece (inr some) left =
     let all = sequence_clear (inside spot) some.1.content some.1.extensions some.1.are_extensions sequence.inside_is in (
       rw (
         next,
-        here.is_item,
-        no_part-stands kinds.Der (inside spot) SEQUENCE some.1.content some.0 [] sequence,
+        no_item-stands kinds.Der here,
+        no_part-stands kinds.Der kinds.Der (inside spot) SEQUENCE some.1.content some.0 [] sequence,
         all,
-        end_from_nothing kinds.Der (after (inside spot)) sequence.after_is,
+        end_from_nothing kinds.Der kinds.Der (after (inside spot)) sequence.after_is,
       ) refl,
       rw (after_next CONTEXT_CONSTRUCTED spot next) here.after_is,
     )

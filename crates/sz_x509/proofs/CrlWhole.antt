@@ -1,24 +1,25 @@
 -- A revocation list as a whole: its bytes have no fault exactly where they are spelled as the relation says, and are
 -- those of one list.
-use Rattle.std.proofs.Common.{◌≡◌, ℕ, inl, inr, List, [], ◌++◌, Some, None, Result, Ok, Err, refl, sym, ap, subst, ◌∙◌, arith}
 use Rattle.std.specs.Prelude.{IfErr, IfOk, IsOkAnd, OnOk}
+use Rattle.std.proofs.Common.{◌≡◌, ℕ, inl, inr, List, [], ◌++◌, Some, None, Result, Ok, Err, refl, sym, ap, subst, ◌∙◌, arith}
 use Rattle.sz_der.specs.Der.{AreOctets, Der}
+use Rattle.sz_der.specs.Spots.{after, after_optional, at, content_at, front, inside, Spot, whole_at}
 use Rattle.sz_der.specs.declared.tag.TheConstants.{CONTEXT_CONSTRUCTED, GENERALIZED_TIME, INTEGER, SEQUENCE, UTC_TIME}
+use Rattle.sz_der.specs.declared.parts.PartFault.{PartFault}
+use Rattle.sz_der.proofs.Optional.{BeginsWithout, without_item, without_nothing}
+use Rattle.sz_der.proofs.Joined.{alone, and_then, Der_with, last}
+use Rattle.sz_der.proofs.Spots.{end_from_nothing, Found, found_part, inside-left, no_part-stands, nothing_left, parts_of_none, stands}
 use Rattle.sz_x509.specs.CertFault.{octets_at}
 use Rattle.sz_x509.specs.CertPlaces.{seconds_at}
 use Rattle.sz_x509.specs.CrlFault.{crl_fault, list_algorithm_spot, list_extensions_spot, list_issuer_spot, list_parts_fault, next_update_spot, revoked_spot, this_update_spot}
 use Rattle.sz_x509.specs.CrlPlaces.{CrlAt, entries_at, ListAt, next_update_at}
 use Rattle.sz_x509.specs.CrlView.{list_view}
-use Rattle.sz_x509.specs.Parts.{after, after_optional, content_at, front, inside, Spot, whole_at}
 use Rattle.sz_x509.specs.RevocationList.{CrlOf, HasListExtensions, IsRevoked, IsTbsList, RevocationList}
-use Rattle.sz_x509.specs.View.{at}
 use Rattle.sz_x509.specs.declared.crl.Crl.{Crl}
-use Rattle.sz_x509.specs.declared.fault.CertFault.{CertFault}
 use Rattle.sz_x509.specs.declared.fault.CertKind.TheVariants as kinds
-use Rattle.sz_x509.proofs.Chains.{BeginsWithout, without_item, without_nothing}
+use Rattle.sz_x509.specs.declared.fault.CertKind.{CertKind}
 use Rattle.sz_x509.proofs.CrlParts.{list_extensions_clear, list_extensions_read, list_version_clear, list_version_reads, next_update_clear, next_update_reads, revoked_clear, revoked_reads}
-use Rattle.sz_x509.proofs.Spelled.{algorithm_clear, alone, and_then, Der_with, IsAlgorithm_from_none, IsSignature_from_none, IsTime_from_none, last, signature_clear, time_clear}
-use Rattle.sz_x509.proofs.Spots.{end_from_nothing, Found, found_part, inside-left, no_part-stands, nothing_left, parts_of_none, stands}
+use Rattle.sz_x509.proofs.Spelled.{algorithm_clear, IsAlgorithm_from_none, IsSignature_from_none, IsTime_from_none, signature_clear, time_clear}
 use Rattle.sz_x509.proofs.Whole.{front-left}
 
 -- ---- TBSCertList
@@ -46,12 +47,12 @@ IsTbsList_from_none spot fields found n at =
     let begins : first.left ≡ version.piece ++ (list_algorithm_spot first).left =
     subst (λ (s : Spot). first.left ≡ version.piece ++ s.left) (sym starts) version.joined in
     let algorithm = IsAlgorithm_from_none (list_algorithm_spot first) octets b.0 in
-    let issuer = found_part kinds.Der SEQUENCE (list_issuer_spot first) algorithm.1.after c.0 in
+    let issuer = found_part _ _ SEQUENCE (list_issuer_spot first) algorithm.1.after c.0 in
     let this_update = IsTime_from_none (this_update_spot first) issuer.after d.0 in
     let next_update = next_update_reads (next_update_spot first) this_update.1.after e.0 in
     let revoked = revoked_reads (revoked_spot first) next_update.after f.0 in
     let extensions = list_extensions_read (list_extensions_spot first) revoked.after g.0 in
-    let only = last extensions.piece extensions.joined (nothing_left kinds.Der (after_optional CONTEXT_CONSTRUCTED (list_extensions_spot first)) h.0) in
+    let only = last extensions.piece extensions.joined (nothing_left _ _ (after_optional CONTEXT_CONSTRUCTED (list_extensions_spot first)) h.0) in
     let tail = and_then (whole_at (this_update_spot first)) this_update.1.joined
     (and_then next_update.piece next_update.joined (and_then revoked.piece revoked.joined only)) in
     let all = and_then version.piece begins (and_then (whole_at (list_algorithm_spot first)) algorithm.1.joined
@@ -108,12 +109,12 @@ list_clear first fields bytes is left =
       rw (
         version.0,
         algorithm.0,
-        no_part-stands kinds.Der (list_issuer_spot first) SEQUENCE _ _ _ issuer,
+        no_part-stands kinds.Der kinds.Der (list_issuer_spot first) SEQUENCE _ _ _ issuer,
         this_update.0,
         next_update.0,
         revoked.0,
         extensions.0,
-        end_from_nothing kinds.Der (after_optional CONTEXT_CONSTRUCTED (list_extensions_spot first)) extensions.1,
+        end_from_nothing kinds.Der kinds.Der (after_optional CONTEXT_CONSTRUCTED (list_extensions_spot first)) extensions.1,
       ) refl,
       record {
         issuer = sym issuer.whole_is;
@@ -135,14 +136,14 @@ CrlOf_from_none bytes fields fits n at =
     let e = parts_of_none _ _ d.1 in
     let f = parts_of_none _ _ e.1 in
     let g = parts_of_none _ _ f.1 in
-    let list = found_part kinds.Der SEQUENCE (front bytes) (rw (front-left bytes) fits) a.0 in
-    let tbs = found_part kinds.Der SEQUENCE (inside (front bytes)) list.inside b.0 in
+    let list = found_part _ _ SEQUENCE (front bytes) (rw (front-left bytes) fits) a.0 in
+    let tbs = found_part _ _ SEQUENCE (inside (front bytes)) list.inside b.0 in
     let algorithm = IsAlgorithm_from_none (after (inside (front bytes))) tbs.after d.0 in
     let signature = IsSignature_from_none kinds.Der (after (after (inside (front bytes)))) algorithm.1.after e.0 in
     let only = last (whole_at (after (after (inside (front bytes))))) signature.1.joined
-    (nothing_left kinds.Der (after (after (after (inside (front bytes))))) f.0) in
+    (nothing_left _ _ (after (after (after (inside (front bytes))))) f.0) in
     let parts = and_then (whole_at (inside (front bytes))) tbs.joined (and_then (whole_at (after (inside (front bytes)))) algorithm.1.joined only) in
-    let whole = sym (front-left bytes) ∙ last (whole_at (front bytes)) list.joined (nothing_left kinds.Der (after (front bytes)) g.0) in
+    let whole = sym (front-left bytes) ∙ last (whole_at (front bytes)) list.joined (nothing_left _ _ (after (front bytes)) g.0) in
     let item = Der_with (sym (inside-left (front bytes)) ∙ parts) list.is_item in
     record {
       algorithm = whole_at (after (inside (front bytes)));
@@ -165,13 +166,13 @@ crl_clear bytes fields is =
     let signature = signature_clear kinds.Der (after (after (inside (front bytes)))) fields.signature is.bits [] is.is_signature
     (alone is.bits algorithm.1) in (
       rw (
-        no_part-stands kinds.Der (front bytes) SEQUENCE (fields.tbs ++ (is.algorithm ++ is.bits)) bytes [] list,
-        no_part-stands kinds.Der (inside (front bytes)) SEQUENCE _ fields.tbs (is.algorithm ++ is.bits) tbs,
+        no_part-stands kinds.Der kinds.Der (front bytes) SEQUENCE (fields.tbs ++ (is.algorithm ++ is.bits)) bytes [] list,
+        no_part-stands kinds.Der kinds.Der (inside (front bytes)) SEQUENCE _ fields.tbs (is.algorithm ++ is.bits) tbs,
         parts.0,
         algorithm.0,
         signature.0,
-        end_from_nothing kinds.Der (after (after (after (inside (front bytes))))) signature.2.after_is,
-        end_from_nothing kinds.Der (after (front bytes)) list.after_is,
+        end_from_nothing kinds.Der kinds.Der (after (after (after (inside (front bytes))))) signature.2.after_is,
+        end_from_nothing kinds.Der kinds.Der (after (front bytes)) list.after_is,
       ) refl,
       record { whole = is.whole; tbs = sym tbs.whole_is; parts = parts.1; signature = sym signature.1 },
     )
@@ -201,12 +202,12 @@ list_same bytes a b at other =
 pub one_list : (bytes : List ℕ) (a b : RevocationList) → CrlOf bytes a → CrlOf bytes b → a ≡ b
 one_list bytes a b is other = list_same bytes a b (crl_clear bytes a is).1 (crl_clear bytes b other).1
 
-pub read_ok : (bytes : List ℕ) → AreOctets bytes → (answer : Result Crl CertFault) → OnOk answer (crl_fault bytes ≡ None) →
+pub read_ok : (bytes : List ℕ) → AreOctets bytes → (answer : Result Crl (PartFault CertKind)) → OnOk answer (crl_fault bytes ≡ None) →
     IfOk answer (λ list. CrlAt bytes (list_view list)) → IfOk answer (λ list. CrlOf bytes (list_view list))
 read_ok bytes fits (Ok list) none fields = CrlOf_from_none bytes (list_view list) fits none fields
 read_ok bytes fits (Err fault) none fields = tt
 
-pub read_only : (bytes : List ℕ) (fields : RevocationList) → CrlOf bytes fields → (answer : Result Crl CertFault) →
+pub read_only : (bytes : List ℕ) (fields : RevocationList) → CrlOf bytes fields → (answer : Result Crl (PartFault CertKind)) →
     IfOk answer (λ list. CrlAt bytes (list_view list)) → IfErr answer (λ fault. crl_fault bytes ≡ Some (at fault)) →
     IsOkAnd answer (λ list. list_view list ≡ fields)
 read_only bytes fields is (Ok list) here fails = list_same bytes (list_view list) fields here (crl_clear bytes fields is).1

@@ -1,13 +1,13 @@
 -- Items one after another under one rule: what has no fault is spelled as each is to be, and what is spelled so has none.
-use Rattle.std.proofs.Common.{◌≡◌, ℕ, zero, suc, inl, inr, ◌<◌, ◌≤◌, true, false, List, [], ◌∷◌, ◌++◌, length, Option, Some, None, refl, ap, arith, length-append}
 use Rattle.std.specs.Prelude.{map}
+use Rattle.std.proofs.Common.{◌≡◌, ℕ, zero, suc, inl, inr, ◌<◌, ◌≤◌, true, false, List, [], ◌∷◌, ◌++◌, length, Option, Some, None, refl, ap, arith, length-append}
 use Rattle.std.proofs.lemmas.Bool.{cases_Bool}
 use Rattle.sz_der.specs.Der.{AreOctets}
+use Rattle.sz_der.specs.Spots.{after, AreEach, each, first_of, is_at_end, or_later, Spot, spots_upto, whole_at}
 use Rattle.sz_der.specs.declared.tag.TheConstants.{SEQUENCE}
+use Rattle.sz_der.proofs.SpotLists.{less_is_left}
+use Rattle.sz_der.proofs.Spots.{Found, nil_from_end, no_bytes, parts_of_none}
 use Rattle.sz_x509.specs.CertFault.{Fault}
-use Rattle.sz_x509.specs.Parts.{after, AreEach, each, first_of, is_at_end, or_later, Spot, spots_upto, whole_at}
-use Rattle.sz_x509.proofs.ExtensionLists.{less_after, no_bytes}
-use Rattle.sz_x509.proofs.Spots.{Found, nil_from_end, parts_of_none}
 
 -- the rule of one item says that it is spelled so
 abbrev pub Reads : {A : Type 0} → (A → List ℕ → Type 0) → (Spot → A) → (Spot → Option Fault) → Type 0
@@ -26,7 +26,7 @@ are_each Is value fault reads (suc n) spot few fits e =
           let parts = parts_of_none (fault spot) (first_of (each fault (spots_upto n (after spot)) ∷ [])) (rw more at e) in
           let others = parts_of_none (each fault (spots_upto n (after spot))) None parts.1 in
           let here = reads spot fits parts.0 in
-          let fewer : length (after spot).left ≤ n = omega (arith, less_after spot SEQUENCE here.1) in
+          let fewer : length (after spot).left ≤ n = omega (arith, less_is_left spot more) in
           rw more (whole_at spot, (after spot).left, here.0, here.1.joined, are_each Is value fault reads n (after spot) fewer here.1.after others.0)
     ]
 

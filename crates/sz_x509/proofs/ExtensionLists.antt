@@ -1,20 +1,22 @@
 -- Extensions one after another: what has no fault is spelled as its relation says, and what is spelled so has none.
-use Rattle.std.proofs.Common.{◌≡◌, ◌≢◌, ℕ, zero, suc, inl, inr, ◌<◌, ◌≤◌, Bool, true, false, not, ◌||◌, List, [], ◌∷◌, ◌++◌, length, None, refl, sym, ap, ◌∙◌, arith, length-append}
 use Rattle.std.specs.Prelude.{◌+◌, bytes_eq, map, nat_lt}
 use Rattle.std.specs.List.{AllByRecursion}
+use Rattle.std.proofs.Common.{◌≡◌, ◌≢◌, ℕ, zero, suc, inl, inr, ◌<◌, ◌≤◌, Bool, true, false, not, ◌||◌, List, [], ◌∷◌, ◌++◌, length, None, refl, sym, ap, ◌∙◌, arith, length-append}
 use Rattle.std.proofs.lemmas.Bool.{both_ways, cases_Bool, false_from_ne_true, not-true, lt-ltb, ltb-true, not_from_false, or_left, or_right, or_parts, or_from}
 use Rattle.std.proofs.lemmas.List.{length-map}
 use Rattle.std.proofs.lemmas.List.Folds.{list_any-append}
 use Rattle.sz_der.specs.Der.{AreOctets, Der}
+use Rattle.sz_der.specs.Spots.{after, content_at, inside, is_at_end, rule, Spot, spots_upto, whole_at}
 use Rattle.sz_der.specs.declared.tag.TheConstants.{BOOLEAN, OBJECT_IDENTIFIER, OCTET_STRING, SEQUENCE}
+use Rattle.sz_der.proofs.SpotLists.{less_is_left}
+use Rattle.sz_der.proofs.Spots.{end_from_nothing, Found, found_part, holds_from_rule, inside-left, nil_from_end, no_bytes, no_part-stands, nothing_left, parts_of_none, rule_from_holds, stands}
+use Rattle.sz_der.proofs.Joined.{alone, and_then, Der_with, last}
+use Rattle.sz_der.proofs.Optional.{BeginsWithout, without_item}
+use Rattle.sz_der.proofs.Octets.{bytes_same, same_bytes}
 use Rattle.sz_x509.specs.CertFault.{each_fault, end, extension_fault, flag_at, flag_fault, flag_spot, identifier_at, part, stands_among, value_fault, value_spot}
 use Rattle.sz_x509.specs.Extensions.{AreDistinct, AreExtensions, Extension, is_known, IsExtension, IsUnderstood, most_extensions}
-use Rattle.sz_x509.specs.Parts.{after, content_at, inside, is_at_end, rule, Spot, spots_upto, whole_at}
 use Rattle.sz_x509.specs.declared.fault.CertKind.TheVariants as kinds
-use Rattle.sz_x509.proofs.Spots.{end_from_nothing, Found, found_part, holds_from_rule, inside-left, nil_from_end, no_part-stands, nothing_left, parts_of_none, rule_from_holds, stands}
-use Rattle.sz_x509.proofs.Spelled.{alone, and_then, Der_with, last}
-use Rattle.sz_x509.proofs.Chains.{BeginsWithout, flag_clear, IsFlag_from_none, without_item}
-use Rattle.sz_x509.proofs.Values.{bytes_same, same_bytes}
+use Rattle.sz_x509.proofs.Chains.{flag_clear, IsFlag_from_none}
 
 -- the extension at a spot
 abbrev pub extension_at : Spot → Extension
@@ -57,11 +59,11 @@ good_from_none earlier spot fits n =
     let g = parts_of_none _ _ f.1 in
     let h = parts_of_none _ _ g.1 in
     let i = parts_of_none _ _ h.1 in
-    let sequence = found_part kinds.Der SEQUENCE spot fits a.0 in
-    let identifier = found_part kinds.Der OBJECT_IDENTIFIER (inside spot) sequence.inside c.0 in
+    let sequence = found_part _ _ SEQUENCE spot fits a.0 in
+    let identifier = found_part _ _ OBJECT_IDENTIFIER (inside spot) sequence.inside c.0 in
     let flag = IsFlag_from_none (flag_spot spot) identifier.after e.0 in
-    let value = found_part kinds.Der OCTET_STRING (value_spot spot) flag.after g.0 in
-    let only = last (whole_at (value_spot spot)) value.joined (nothing_left kinds.Der (after (value_spot spot)) h.0) in
+    let value = found_part _ _ OCTET_STRING (value_spot spot) flag.after g.0 in
+    let only = last (whole_at (value_spot spot)) value.joined (nothing_left _ _ (after (value_spot spot)) h.0) in
     let parts = and_then (whole_at (inside spot)) identifier.joined (and_then flag.piece flag.joined only) in
     let new = holds_from_rule (not (stands_among earlier (identifier_at spot))) kinds.Extension spot d.0 in
     let told = holds_from_rule (not (flag_at (flag_spot spot)) || is_known (identifier_at spot)) kinds.Extension spot f.0 in
@@ -112,11 +114,11 @@ spelled spot extension whole rest is joined =
     let flag = flag_clear (flag_spot spot) extension.critical is.flag is.value is.is_flag no_flag identifier.after_is in
     let value = stands (value_spot spot) OCTET_STRING extension.value is.value [] is.is_value (alone is.value flag.2) in
     record {
-      sequence = no_part-stands kinds.Der spot SEQUENCE (is.identifier ++ (is.flag ++ is.value)) whole rest sequence;
-      identifier = no_part-stands kinds.Der (inside spot) OBJECT_IDENTIFIER extension.identifier is.identifier (is.flag ++ is.value) identifier;
+      sequence = no_part-stands kinds.Der kinds.Der spot SEQUENCE (is.identifier ++ (is.flag ++ is.value)) whole rest sequence;
+      identifier = no_part-stands kinds.Der kinds.Der (inside spot) OBJECT_IDENTIFIER extension.identifier is.identifier (is.flag ++ is.value) identifier;
       flag = flag.0;
-      value = no_part-stands kinds.Der (value_spot spot) OCTET_STRING extension.value is.value [] value;
-      end = end_from_nothing kinds.Der (after (value_spot spot)) value.after_is;
+      value = no_part-stands kinds.Der kinds.Der (value_spot spot) OCTET_STRING extension.value is.value [] value;
+      end = end_from_nothing kinds.Der kinds.Der (after (value_spot spot)) value.after_is;
       is_extension = same_extension extension (identifier_at spot) (flag_at (flag_spot spot)) (content_at (value_spot spot)) identifier.content_is
           flag.1 value.content_is;
       after = sequence.after_is;
@@ -157,15 +159,6 @@ clear_where_spelled earlier spot extension rest is room new understood value =
 pub whole_some : (tag : ℕ) (content whole : List ℕ) → Der tag content whole → 0 < length whole
 whole_some tag content whole item = rw item.spelled (omega arith)
 
--- what is left after an item is less
-pub less_after : (spot : Spot) (tag : ℕ) → Found spot tag → length (after spot).left < length spot.left
-less_after spot tag here =
-    omega (arith, ap length here.joined, length-append (whole_at spot) (after spot).left, whole_some tag (content_at spot) (whole_at spot) here.is_item)
-
-pub no_bytes : (bytes : List ℕ) → length bytes ≤ 0 → bytes ≡ []
-no_bytes [] few = refl
-no_bytes (byte ∷ bytes) few = absurd (omega arith)
-
 pub are_extensions : (n : ℕ) (earlier : List Spot) (spot : Spot) → length spot.left ≤ n → AreOctets spot.left →
     each_fault earlier (spots_upto n spot) ≡ None →
     AreExtensions (extensions_at (spots_upto n spot)) spot.left × AllByRecursion Keeps (spots_upto n spot)
@@ -178,7 +171,7 @@ are_extensions (suc n) earlier spot few fits e =
           let parts = parts_of_none _ _ (rw more at e) in
           let others = parts_of_none _ _ parts.1 in
           let good = good_from_none earlier spot fits parts.0 in
-          let fewer : length (after spot).left ≤ n = omega (arith, less_after spot SEQUENCE good.found) in
+          let fewer : length (after spot).left ≤ n = omega (arith, less_is_left spot more) in
           let rest = are_extensions n (earlier ++ spot ∷ []) (after spot) fewer good.found.after others.0 in
           rw more ((whole_at spot, (after spot).left, good.is_extension, good.found.joined, rest.0), (good.keeps, rest.1))
     ]

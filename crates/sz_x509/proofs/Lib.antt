@@ -1,7 +1,5 @@
-pub mod Spots
 pub mod Values
 pub mod Times
-pub mod Steps
 pub mod Spelled
 pub mod Chains
 pub mod ExtensionLists

@@ -1,9 +1,9 @@
 -- A walk over the entries of a list, up to the one with a serial number.
 use Rattle.std.proofs.Common.{◌≡◌, ℕ, false, List, [], ◌∷◌, refl, sym, ap, subst, ◌∙◌, arith, length, length-append}
+use Rattle.sz_der.specs.Spots.{after, Spot, spot_of}
 use Rattle.sz_der.specs.declared.tag.TheConstants.{SEQUENCE}
 use Rattle.sz_der.specs.declared.reader.DerReader.{DerReader}
 use Rattle.sz_x509.specs.CrlPlaces.{BeginsEntry}
-use Rattle.sz_x509.specs.Parts.{after, Spot, spot_of}
 use Rattle.sz_x509.specs.RevocationList.{AreEntries, is_listed}
 use Rattle.sz_x509.proofs.CrlParts.{has_entry, serial_at}
 use Rattle.sz_x509.proofs.ExtensionLists.{whole_some}

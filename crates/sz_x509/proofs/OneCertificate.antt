@@ -1,29 +1,30 @@
 -- Bytes without a fault are those of one certificate and no other, and what the reader answers of them.
-use Rattle.std.proofs.Common.{◌≡◌, ℕ, zero, suc, inl, inr, not, ◌||◌, ◌+◌, ◌*◌, ◌/◌, ◌%◌, ◌^◌, ◌<◌, List, [], ◌∷◌, ◌++◌, length, drop, Option, Some, None, Result, Ok, Err, refl, sym, ap, ◌∙◌, arith}
 use Rattle.std.specs.Prelude.{bytes_eq, IfErr, IfOk, IsOkAnd, nat_lt, OnOk}
 use Rattle.std.specs.Int.{bit_at}
 use Rattle.std.specs.List.{AllByRecursion}
+use Rattle.std.proofs.Common.{◌≡◌, ℕ, zero, suc, inl, inr, not, ◌||◌, ◌+◌, ◌*◌, ◌/◌, ◌%◌, ◌^◌, ◌<◌, List, [], ◌∷◌, ◌++◌, length, drop, Option, Some, None, Result, Ok, Err, refl, sym, ap, ◌∙◌, arith}
 use Rattle.std.proofs.Math.Nat.{pow-suc}
 use Rattle.std.proofs.lemmas.Bool.{cases_Bool}
 use Rattle.std.proofs.lemmas.Nat.Bits.{bit_at-lt, bit_at-suc, bit_at_lowest}
 use Rattle.sz_der.specs.Content.{bit_of, HasNamedBits, HoldsBits}
 use Rattle.sz_der.specs.Der.{AreOctets}
+use Rattle.sz_der.specs.Spots.{after, after_optional, at, content_at, front, inside, is_next, rule, Spot, spots_from, whole_at}
 use Rattle.sz_der.specs.declared.tag.TheConstants.{OBJECT_IDENTIFIER, OCTET_STRING, SEQUENCE}
+use Rattle.sz_der.specs.declared.parts.PartFault.{PartFault}
+use Rattle.sz_der.proofs.Spots.{all_none, parts_of_none}
+use Rattle.sz_der.proofs.Octets.{same_bytes}
 use Rattle.sz_x509.specs.Certificate.{Certificate, CertOf}
 use Rattle.sz_x509.specs.CertFault.{algorithm_fault, cert_fault, each_fault, end, extension_fault, extensions_fault, extensions_spot, flag_at, flag_fault, flag_spot, identifier_at, integer_fault, issuer_id_spot, issuer_spot, key_fault, key_spot, key_usage_fault, octets_at, part, serial_spot, stands_among, subject_id_spot, subject_spot, tbs_parts_fault, unique_id_fault, validity_fault, validity_spot, value_fault, value_spot, version_fault}
 use Rattle.sz_x509.specs.CertPlaces.{ca_at, extension_spots, FieldsAt, key_at, key_id_at, path_len_at, RestrictedAt, seconds_at, UsageAt, value_among}
 use Rattle.sz_x509.specs.Extensions.{is_known, most_extensions, Restrictions}
-use Rattle.sz_x509.specs.Parts.{after, after_optional, content_at, front, inside, is_next, rule, Spot, spots_from, whole_at}
-use Rattle.sz_x509.specs.View.{at, view}
+use Rattle.sz_x509.specs.View.{view}
 use Rattle.sz_x509.specs.declared.cert.Cert.{Cert}
-use Rattle.sz_x509.specs.declared.fault.CertFault.{CertFault}
 use Rattle.sz_x509.specs.declared.fault.CertKind.TheVariants as kinds
 use Rattle.sz_x509.specs.declared.identifier.TheConstants.{BASIC_CONSTRAINTS, KEY_USAGE, SUBJECT_KEY_IDENTIFIER}
 use Rattle.sz_x509.specs.declared.tag.TheConstants.{EXTENSIONS, ISSUER_UNIQUE_ID, SUBJECT_UNIQUE_ID}
+use Rattle.sz_x509.specs.declared.fault.CertKind.{CertKind}
 use Rattle.sz_x509.proofs.Chains.{bits_at}
 use Rattle.sz_x509.proofs.Restricted.{usage_rule}
-use Rattle.sz_x509.proofs.Spots.{all_none, parts_of_none}
-use Rattle.sz_x509.proofs.Values.{same_bytes}
 use Rattle.sz_x509.proofs.Whole.{cert_clear, CertOf_from_none, spots_next, spots_other}
 
 -- ---- bits
@@ -93,12 +94,12 @@ one_certificate bytes a b is other = fields_same bytes a b (cert_clear bytes a i
 
 -- ---- what the reader answers
 
-pub read_ok : (bytes : List ℕ) → AreOctets bytes → (answer : Result Cert CertFault) → OnOk answer (cert_fault bytes ≡ None) →
+pub read_ok : (bytes : List ℕ) → AreOctets bytes → (answer : Result Cert (PartFault CertKind)) → OnOk answer (cert_fault bytes ≡ None) →
     IfOk answer (λ cert. FieldsAt bytes (view cert)) → IfOk answer (λ cert. CertOf bytes (view cert))
 read_ok bytes fits (Ok cert) none fields = CertOf_from_none bytes (view cert) fits none fields
 read_ok bytes fits (Err fault) none fields = tt
 
-pub read_only : (bytes : List ℕ) (fields : Certificate) → CertOf bytes fields → (answer : Result Cert CertFault) →
+pub read_only : (bytes : List ℕ) (fields : Certificate) → CertOf bytes fields → (answer : Result Cert (PartFault CertKind)) →
     IfOk answer (λ cert. FieldsAt bytes (view cert)) → IfErr answer (λ fault. cert_fault bytes ≡ Some (at fault)) →
     IsOkAnd answer (λ cert. view cert ≡ fields)
 read_only bytes fields is (Ok cert) here fails = fields_same bytes (view cert) fields here (cert_clear bytes fields is).1

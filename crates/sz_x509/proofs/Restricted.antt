@@ -1,17 +1,17 @@
 -- What extensions restrict a certificate to, by their list and by their places.
-use Rattle.std.proofs.Common.{◌≡◌, ◌≢◌, ◌≤◌, ℕ, inl, inr, ◌⊎◌, Bool, List, [], ◌∷◌, length, Option, Some, None, refl, sym, ap, ◌∙◌}
 use Rattle.std.specs.Prelude.{bytes_eq}
 use Rattle.std.specs.List.{AllByRecursion}
+use Rattle.std.proofs.Common.{◌≡◌, ◌≢◌, ◌≤◌, ℕ, inl, inr, ◌⊎◌, Bool, List, [], ◌∷◌, length, Option, Some, None, refl, sym, ap, ◌∙◌}
 use Rattle.std.proofs.lemmas.Bool.{cases_Bool, false_from_ne_true}
+use Rattle.sz_der.specs.Spots.{content_at, inside, Spot}
+use Rattle.sz_der.proofs.Spots.{inside-left}
+use Rattle.sz_der.proofs.Octets.{bytes_same, same_bytes}
 use Rattle.sz_x509.specs.CertFault.{basic_constraints_fault, identifier_at, key_identifier_fault, key_usage_fault, value_fault, value_spot}
 use Rattle.sz_x509.specs.CertPlaces.{ca_at, key_id_at, path_len_at, RestrictedAt, UsageAt, value_among}
 use Rattle.sz_x509.specs.Extensions.{AreDistinct, Extension, HasBasicConstraints, HasKeyIdentifier, HasKeyUsage, most_extensions, Restrict, Restrictions, value_of}
-use Rattle.sz_x509.specs.Parts.{content_at, inside, Spot}
 use Rattle.sz_x509.specs.declared.identifier.TheConstants.{BASIC_CONSTRAINTS, KEY_USAGE, SUBJECT_KEY_IDENTIFIER}
-use Rattle.sz_x509.proofs.Spots.{inside-left}
 use Rattle.sz_x509.proofs.Chains.{basic_constraints_clear, IsBasicConstraints_from_none, IsKeyIdentifier_from_none, IsKeyUsage_from_none, key_identifier_clear, key_usage_clear}
 use Rattle.sz_x509.proofs.ExtensionLists.{are_understood, extensions_at, Keeps, ValueIsClear}
-use Rattle.sz_x509.proofs.Values.{bytes_same, same_bytes}
 
 -- ---- the value of an extension, by its list and by its place
 

@@ -1,39 +1,25 @@
 -- The parts of certificates: what has no fault is spelled as its relation says, and what is spelled so has none.
-use Rattle.std.proofs.Common.{◌≡◌, ℕ, inl, inr, true, List, [], ◌∷◌, ◌++◌, drop, None, refl, sym, ap, subst, ◌∙◌, ℤ}
 use Rattle.std.specs.Prelude.{bytes_eq}
-use Rattle.std.proofs.lemmas.List.{append-nil}
+use Rattle.std.proofs.Common.{◌≡◌, ℕ, inl, inr, true, List, [], ◌∷◌, ◌++◌, drop, None, refl, sym, ap, ◌∙◌, ℤ}
 use Rattle.sz_calendar.specs.CivilTime.{CivilTime, IsReal, unix_seconds}
 use Rattle.sz_der.specs.Der.{AreOctets, Der}
 use Rattle.sz_der.specs.Time.{NamesTime}
+use Rattle.sz_der.specs.Integer.{is_integer}
+use Rattle.sz_der.specs.Spots.{no_integer, after, content_at, inside, Spot, tag_at, whole_at}
 use Rattle.sz_der.specs.declared.tag.TheConstants.{BIT_STRING, CONTEXT_CONSTRUCTED, INTEGER, OBJECT_IDENTIFIER, SEQUENCE}
+use Rattle.sz_der.proofs.Joined.{alone, and_then, Der_with, last}
+use Rattle.sz_der.proofs.Spots.{end_from_nothing, found, Found, found_part, holds_from_rule, inside-left, no_item-stands, no_part-stands, nothing_left, parts_of_none, rule_from_holds, Stands, stands}
+use Rattle.sz_der.proofs.Octets.{bytes_same, same_bytes}
+use Rattle.sz_der.proofs.IntegerTest.{integer_test, IsInteger_from_test}
 use Rattle.sz_x509.specs.Certificate.{IsHssAlgorithm, IsKey, IsSerial, IsSignature, IsTime, IsValidity, IsVersion3}
 use Rattle.sz_x509.specs.CertFault.{algorithm_fault, bits_of_key, holds_key, integer_fault, key_fault, octets_at, octets_fault, time_fault, validity_fault, version_fault}
 use Rattle.sz_x509.specs.CertPlaces.{key_at, seconds_at}
-use Rattle.sz_x509.specs.Contents.{is_integer, is_time, is_whole_octets, time_in}
-use Rattle.sz_x509.specs.Parts.{after, content_at, inside, Spot, tag_at, whole_at}
+use Rattle.sz_x509.specs.Contents.{is_time, is_whole_octets, time_in}
 use Rattle.sz_x509.specs.declared.fault.CertKind.{CertKind}
 use Rattle.sz_x509.specs.declared.fault.CertKind.TheVariants as kinds
 use Rattle.sz_x509.specs.declared.identifier.TheConstants.{HSS_LMS}
-use Rattle.sz_x509.proofs.Spots.{end_from_nothing, Found, found, found_part, holds_from_rule, inside-left, no_part-stands, nothing_left, parts_of_none, rule_from_holds, Stands, stands}
 use Rattle.sz_x509.proofs.Times.{NamesTime_from_test, time_test, time_value}
-use Rattle.sz_x509.proofs.Values.{bytes_same, HoldsKey_from_test, integer_test, IsInteger_from_test, key_test, key_value, same_bytes, whole_octets_from_test, whole_octets_test}
-
--- ---- joined strings
-
--- the last part, after which nothing is left
-pub last : (whole : List ℕ) {left rest : List ℕ} → left ≡ whole ++ rest → rest ≡ [] → left ≡ whole
-last whole joined nothing = joined ∙ ap (λ (x : List ℕ). whole ++ x) nothing ∙ append-nil whole
-
--- a part, and what is said of the rest
-pub and_then : (whole : List ℕ) {left rest other : List ℕ} → left ≡ whole ++ rest → rest ≡ other → left ≡ whole ++ other
-and_then whole joined same = joined ∙ ap (λ (x : List ℕ). whole ++ x) same
-
--- what is left inside an item of one part
-pub alone : (whole : List ℕ) {left : List ℕ} → left ≡ whole → left ≡ whole ++ []
-alone whole same = same ∙ sym (append-nil whole)
-
-pub Der_with : {tag : ℕ} {content other whole : List ℕ} → content ≡ other → Der tag content whole → Der tag other whole
-Der_with {tag} {content} {other} {whole} same item = subst (λ (x : List ℕ). Der tag x whole) same item
+use Rattle.sz_x509.proofs.Values.{HoldsKey_from_test, key_test, key_value, whole_octets_from_test, whole_octets_test}
 
 -- ---- AlgorithmIdentifier
 
@@ -44,11 +30,11 @@ IsAlgorithm_from_none spot fits n =
     let b = parts_of_none _ _ a.1 in
     let c = parts_of_none _ _ b.1 in
     let d = parts_of_none _ _ c.1 in
-    let sequence = found_part kinds.Algorithm SEQUENCE spot fits a.0 in
-    let identifier = found_part kinds.Algorithm OBJECT_IDENTIFIER (inside spot) sequence.inside b.0 in
+    let sequence = found_part _ _ SEQUENCE spot fits a.0 in
+    let identifier = found_part _ _ OBJECT_IDENTIFIER (inside spot) sequence.inside b.0 in
     let is = same_bytes (content_at (inside spot)) HSS_LMS
     (holds_from_rule (bytes_eq (content_at (inside spot)) HSS_LMS) kinds.Algorithm (inside spot) c.0) in
-    let only = last (whole_at (inside spot)) identifier.joined (nothing_left kinds.Algorithm (after (inside spot)) d.0) in (
+    let only = last (whole_at (inside spot)) identifier.joined (nothing_left _ _ (after (inside spot)) d.0) in (
       record {
         identifier = whole_at (inside spot);
         is_identifier = Der_with is identifier.is_item;
@@ -64,11 +50,11 @@ algorithm_clear spot whole rest is joined =
     let sequence = stands spot SEQUENCE is.identifier whole rest is.is_sequence joined in
     let identifier = stands (inside spot) OBJECT_IDENTIFIER HSS_LMS is.identifier [] is.is_identifier (alone is.identifier sequence.inside_is) in (
       rw (
-        no_part-stands kinds.Algorithm spot SEQUENCE is.identifier whole rest sequence,
-        no_part-stands kinds.Algorithm (inside spot) OBJECT_IDENTIFIER HSS_LMS is.identifier [] identifier,
+        no_part-stands kinds.Der kinds.Algorithm spot SEQUENCE is.identifier whole rest sequence,
+        no_part-stands kinds.Der kinds.Algorithm (inside spot) OBJECT_IDENTIFIER HSS_LMS is.identifier [] identifier,
         rule_from_holds (bytes_eq (content_at (inside spot)) HSS_LMS) kinds.Algorithm (inside spot)
             (bytes_same (content_at (inside spot)) HSS_LMS identifier.content_is),
-        end_from_nothing kinds.Algorithm (after (inside spot)) identifier.after_is,
+        end_from_nothing kinds.Der kinds.Algorithm (after (inside spot)) identifier.after_is,
       ) refl,
       sequence.after_is,
     )
@@ -76,11 +62,11 @@ algorithm_clear spot whole rest is joined =
 -- ---- INTEGER, BIT STRING, Name and Time
 
 pub IsSerial_from_none : (spot : Spot) → AreOctets spot.left → integer_fault spot ≡ None → IsSerial (content_at spot) (whole_at spot) × Found spot INTEGER
-unfolding integer_fault
+unfolding no_integer
 IsSerial_from_none spot fits n =
     let a = parts_of_none _ _ n in
     let b = parts_of_none _ _ a.1 in
-    let here = found_part kinds.Der INTEGER spot fits a.0 in (
+    let here = found_part _ _ INTEGER spot fits a.0 in (
       record {
         minimal = IsInteger_from_test (content_at spot) (holds_from_rule (is_integer (content_at spot)) kinds.Der spot b.0);
         is_item = here.is_item;
@@ -90,11 +76,11 @@ IsSerial_from_none spot fits n =
 
 pub serial_clear : (spot : Spot) (serial whole rest : List ℕ) → IsSerial serial whole → spot.left ≡ whole ++ rest →
     (integer_fault spot ≡ None) × Stands spot INTEGER serial whole rest
-unfolding integer_fault
+unfolding no_integer
 serial_clear spot serial whole rest is joined =
     let here = stands spot INTEGER serial whole rest is.is_item joined in
     let minimal : is_integer (content_at spot) ≡ true = rw here.content_is (integer_test serial is.minimal) in
-    (rw (no_part-stands kinds.Der spot INTEGER serial whole rest here, rule_from_holds (is_integer (content_at spot)) kinds.Der spot minimal) refl, here)
+    (rw (no_part-stands kinds.Der kinds.Der spot INTEGER serial whole rest here, rule_from_holds (is_integer (content_at spot)) kinds.Der spot minimal) refl, here)
 
 pub IsSignature_from_none : (other : CertKind) (spot : Spot) → AreOctets spot.left → octets_fault other spot ≡ None →
     IsSignature (octets_at spot) (whole_at spot) × Found spot BIT_STRING
@@ -102,7 +88,7 @@ unfolding octets_fault octets_at
 IsSignature_from_none other spot fits n =
     let a = parts_of_none _ _ n in
     let b = parts_of_none _ _ a.1 in
-    let here = found_part other BIT_STRING spot fits a.0 in
+    let here = found_part _ _ BIT_STRING spot fits a.0 in
     let is = whole_octets_from_test (content_at spot) (holds_from_rule (is_whole_octets (content_at spot)) kinds.Der spot b.0) in
     (Der_with is here.is_item, here)
 
@@ -113,7 +99,7 @@ signature_clear other spot signature whole rest is joined =
     let here = stands spot BIT_STRING (0 ∷ signature) whole rest is joined in
     let test = whole_octets_test signature (content_at spot) here.content_is in (
       rw (
-        no_part-stands other spot BIT_STRING (0 ∷ signature) whole rest here,
+        no_part-stands kinds.Der other spot BIT_STRING (0 ∷ signature) whole rest here,
         rule_from_holds (is_whole_octets (content_at spot)) kinds.Der spot test,
       ) refl,
       ap (λ (x : List ℕ). drop 1 x) here.content_is,
@@ -149,7 +135,7 @@ unfolding time_fault seconds_at
 time_clear spot seconds whole rest is joined =
     let here = stands spot is.tag is.text whole rest is.is_item joined in
     let test : is_time (tag_at spot) (content_at spot) ≡ true = rw (here.tag_is, here.content_is) (time_test is.tag is.text is.time is.names_time) in (
-      rw (here.is_item, rule_from_holds (is_time (tag_at spot) (content_at spot)) kinds.Time spot test) refl,
+      rw (no_item-stands kinds.Der here, rule_from_holds (is_time (tag_at spot) (content_at spot)) kinds.Time spot test) refl,
       rw (here.tag_is, here.content_is) (ap unix_seconds (time_value is.tag is.text is.time is.names_time) ∙ is.is_at.at),
       here.after_is,
     )
@@ -164,11 +150,11 @@ IsVersion3_from_none spot fits n =
     let c = parts_of_none _ _ b.1 in
     let d = parts_of_none _ _ c.1 in
     let e = parts_of_none _ _ d.1 in
-    let field = found_part kinds.Version CONTEXT_CONSTRUCTED spot fits a.0 in
-    let integer = found_part kinds.Version INTEGER (inside spot) field.inside b.0 in
+    let field = found_part _ _ CONTEXT_CONSTRUCTED spot fits a.0 in
+    let integer = found_part _ _ INTEGER (inside spot) field.inside b.0 in
     let is = same_bytes (content_at (inside spot)) (2 ∷ [])
     (holds_from_rule (bytes_eq (content_at (inside spot)) (2 ∷ [])) kinds.Version (inside spot) d.0) in
-    let only = last (whole_at (inside spot)) integer.joined (nothing_left kinds.Version (after (inside spot)) e.0) in (
+    let only = last (whole_at (inside spot)) integer.joined (nothing_left _ _ (after (inside spot)) e.0) in (
       record {
         integer = whole_at (inside spot);
         is_integer = Der_with is integer.is_item;
@@ -185,12 +171,12 @@ version_clear spot whole rest is joined =
     let integer = stands (inside spot) INTEGER (2 ∷ []) is.integer [] is.is_integer (alone is.integer field.inside_is) in
     let minimal : is_integer (content_at (inside spot)) ≡ true = rw integer.content_is refl in (
       rw (
-        no_part-stands kinds.Version spot CONTEXT_CONSTRUCTED is.integer whole rest field,
-        no_part-stands kinds.Version (inside spot) INTEGER (2 ∷ []) is.integer [] integer,
+        no_part-stands kinds.Der kinds.Version spot CONTEXT_CONSTRUCTED is.integer whole rest field,
+        no_part-stands kinds.Der kinds.Version (inside spot) INTEGER (2 ∷ []) is.integer [] integer,
         rule_from_holds (is_integer (content_at (inside spot))) kinds.Der (inside spot) minimal,
         rule_from_holds (bytes_eq (content_at (inside spot)) (2 ∷ [])) kinds.Version (inside spot)
             (bytes_same (content_at (inside spot)) (2 ∷ []) integer.content_is),
-        end_from_nothing kinds.Version (after (inside spot)) integer.after_is,
+        end_from_nothing kinds.Der kinds.Version (after (inside spot)) integer.after_is,
       ) refl,
       field.after_is,
     )
@@ -203,10 +189,10 @@ IsValidity_from_none spot fits n =
     let b = parts_of_none _ _ a.1 in
     let c = parts_of_none _ _ b.1 in
     let d = parts_of_none _ _ c.1 in
-    let sequence = found_part kinds.Der SEQUENCE spot fits a.0 in
+    let sequence = found_part _ _ SEQUENCE spot fits a.0 in
     let first = IsTime_from_none (inside spot) sequence.inside b.0 in
     let second = IsTime_from_none (after (inside spot)) first.1.after c.0 in
-    let only = last (whole_at (after (inside spot))) second.1.joined (nothing_left kinds.Der (after (after (inside spot))) d.0) in (
+    let only = last (whole_at (after (inside spot))) second.1.joined (nothing_left _ _ (after (after (inside spot))) d.0) in (
       record {
         first = whole_at (inside spot);
         last = whole_at (after (inside spot));
@@ -226,10 +212,10 @@ validity_clear spot not_before not_after whole rest is joined =
     let first = time_clear (inside spot) not_before is.first is.last is.is_first sequence.inside_is in
     let second = time_clear (after (inside spot)) not_after is.last [] is.is_last (alone is.last first.2) in (
       rw (
-        no_part-stands kinds.Der spot SEQUENCE (is.first ++ is.last) whole rest sequence,
+        no_part-stands kinds.Der kinds.Der spot SEQUENCE (is.first ++ is.last) whole rest sequence,
         first.0,
         second.0,
-        end_from_nothing kinds.Der (after (after (inside spot))) second.2,
+        end_from_nothing kinds.Der kinds.Der (after (after (inside spot))) second.2,
       ) refl,
       first.1,
       second.1,
@@ -246,10 +232,10 @@ IsKey_from_none spot fits n =
     let c = parts_of_none _ _ b.1 in
     let d = parts_of_none _ _ c.1 in
     let e = parts_of_none _ _ d.1 in
-    let sequence = found_part kinds.Key SEQUENCE spot fits a.0 in
+    let sequence = found_part _ _ SEQUENCE spot fits a.0 in
     let algorithm = IsAlgorithm_from_none (inside spot) sequence.inside b.0 in
     let bits = IsSignature_from_none kinds.Key (bits_of_key spot) algorithm.1.after c.0 in
-    let only = last (whole_at (bits_of_key spot)) bits.1.joined (nothing_left kinds.Key (after (bits_of_key spot)) e.0) in (
+    let only = last (whole_at (bits_of_key spot)) bits.1.joined (nothing_left _ _ (after (bits_of_key spot)) e.0) in (
       record {
         algorithm = whole_at (inside spot);
         octets = octets_at (bits_of_key spot);
@@ -272,11 +258,11 @@ key_clear spot key whole rest is joined =
     let bits = signature_clear kinds.Key (bits_of_key spot) is.octets is.bits [] is.is_bits (alone is.bits algorithm.1) in
     let test : holds_key (octets_at (bits_of_key spot)) ≡ true = rw bits.1 (key_test key is.octets is.holds_key) in (
       rw (
-        no_part-stands kinds.Key spot SEQUENCE (is.algorithm ++ is.bits) whole rest sequence,
+        no_part-stands kinds.Der kinds.Key spot SEQUENCE (is.algorithm ++ is.bits) whole rest sequence,
         algorithm.0,
         bits.0,
         rule_from_holds (holds_key (octets_at (bits_of_key spot))) kinds.Key (bits_of_key spot) test,
-        end_from_nothing kinds.Key (after (bits_of_key spot)) bits.2.after_is,
+        end_from_nothing kinds.Der kinds.Key (after (bits_of_key spot)) bits.2.after_is,
       ) refl,
       rw bits.1 (key_value key is.octets is.holds_key),
       sequence.after_is,

@@ -1,6 +1,6 @@
 -- The test of times says what the texts of the two types name.
-use Rattle.std.proofs.Common.{◌≡◌, ℕ, inl, inr, ◌+◌, ◌-◌, ◌*◌, ◌/◌, ◌%◌, ◌<◌, ◌≤◌, true, ◌&&◌, List, ◌++◌, get_or, refl, sym, ap, subst, ◌∙◌, arith, ℤ, pos, negsuc, ◌≤ℤ◌}
 use Rattle.std.specs.Prelude.{◌==◌, nat_lt, nat_le, bytes_eq, unsigned_abs}
+use Rattle.std.proofs.Common.{◌≡◌, ℕ, inl, inr, ◌+◌, ◌-◌, ◌*◌, ◌/◌, ◌%◌, ◌<◌, ◌≤◌, true, ◌&&◌, List, ◌++◌, get_or, refl, sym, ap, subst, ◌∙◌, arith, ℤ, pos, negsuc, ◌≤ℤ◌}
 use Rattle.std.proofs.lemmas.Bool.{eqb-true, eq-eqb, ltb-true, lt-ltb, le-ltb, leb-true, le-leb, cases_lt, or_cases, or_left, or_right, and_parts, and_from}
 use Rattle.std.proofs.lemmas.Int.{ints}
 use Rattle.sz_calendar.specs.CivilTime.{CivilTime, IsReal}
@@ -8,8 +8,8 @@ use Rattle.sz_calendar.specs.Gregorian.{IsDate, month_lengths}
 use Rattle.sz_calendar.proofs.Seconds.{same_parts}
 use Rattle.sz_der.specs.Time.{century, generalized_text, in_year, IsGeneralizedTime, IsUtcTime, NamesTime, two_digits, utc_text, year_in_century}
 use Rattle.sz_der.specs.declared.tag.TheConstants.{GENERALIZED_TIME, UTC_TIME}
+use Rattle.sz_der.proofs.Octets.{bytes_same, same_bytes}
 use Rattle.sz_x509.specs.Contents.{digits_at, generalized_time_in, is_date, is_generalized_time, is_real, is_time, is_utc_time, time_in, utc_time_in, year_of_two}
-use Rattle.sz_x509.proofs.Values.{bytes_same, same_bytes}
 
 -- ---- real times
 

@@ -1,22 +1,17 @@
 -- Tests of contents say what the definitions of the types say.
-use Rattle.std.proofs.Common.{◌≡◌, ℕ, inl, inr, ◌+◌, ◌^◌, ◌<◌, ◌≤◌, Bool, true, false, ◌&&◌, List, [], ◌∷◌, ◌++◌, length, get_or, take, drop, refl, sym, ap, ◌∙◌, arith, pos}
-use Rattle.std.specs.Prelude.{◌==◌, nat_lt, nat_le, bytes_eq}
-use Rattle.std.proofs.lemmas.Bool.{eqb-true, eq-eqb, ne_eqb, ltb-true, lt-ltb, le-ltb, leb-true, le-leb, lt-leb, cases_Bool, cases_lt, cases_eq, or_cases, or_left, or_right, or_from, and_parts, and_from, and_left, and_right, not-true, not_from_false, both_ways}
+use Rattle.std.specs.Prelude.{◌==◌, nat_lt, bytes_eq}
+use Rattle.std.proofs.Common.{◌≡◌, ℕ, inl, inr, ◌+◌, ◌^◌, ◌<◌, Bool, true, false, List, [], ◌∷◌, ◌++◌, length, get_or, take, drop, refl, sym, ap, ◌∙◌, arith, pos}
+use Rattle.std.proofs.lemmas.Bool.{eqb-true, eq-eqb, ne_eqb, ltb-true, lt-ltb, leb-true, le-leb, cases_Bool, cases_lt, or_cases, or_left, or_right, and_parts, and_from}
 use Rattle.std.proofs.lemmas.List.{take-append-drop}
-use Rattle.std.proofs.lemmas.Slice.Eq.{bytes_eq-Decides}
 use Rattle.sz_der.specs.Content.{IsBits, IsBoolean}
 use Rattle.sz_der.specs.Der.{AreOctets, number_of}
-use Rattle.sz_der.specs.Integer.{IsInteger, IsIntegerOf}
+use Rattle.sz_der.specs.Integer.{is_integer, IsIntegerOf}
+use Rattle.sz_der.proofs.IntegerTest.{IsInteger_from_test}
+use Rattle.sz_der.proofs.Octets.{same_bytes}
 use Rattle.sz_der.proofs.Values.{integer_of-negative, integer_of-positive, one_number}
 use Rattle.sz_x509.specs.Certificate.{HoldsKey, key_length}
 use Rattle.sz_x509.specs.CertFault.{holds_key, is_wrapped, key_in}
-use Rattle.sz_x509.specs.Contents.{is_bits, is_boolean, is_integer, is_redundant, is_true_content, is_u32, is_whole_octets}
-
-pub same_bytes : (bytes other : List ℕ) → bytes_eq bytes other ≡ true → bytes ≡ other
-same_bytes bytes other = (bytes_eq-Decides bytes other).0
-
-pub bytes_same : (bytes other : List ℕ) → bytes ≡ other → bytes_eq bytes other ≡ true
-bytes_same bytes other = (bytes_eq-Decides bytes other).1
+use Rattle.sz_x509.specs.Contents.{is_bits, is_boolean, is_true_content, is_u32, is_whole_octets}
 
 -- ---- BOOLEAN
 
@@ -35,49 +30,7 @@ pub boolean_value : (flag : Bool) (content : List ℕ) → IsBoolean flag conten
 boolean_value false content is = rw is refl
 boolean_value true content is = rw is refl
 
--- ---- INTEGER
-
-not_redundant : (first second : ℕ) → is_redundant first second ≡ false → (first ≡ 0 → 128 ≤ second) × (first ≡ 255 → second < 128)
-not_redundant first second e = (
-  (λ is. elim (cases_lt second 128) [
-    | inl low ↦ absurd (both_ways _ e (or_left _ _ (and_from _ _ (eq-eqb first 0 is) (lt-ltb second 128 low))))
-    | inr high ↦ high
-  ]),
-  (λ is. elim (cases_lt second 128) [
-    | inl low ↦ low
-    | inr high ↦ absurd (both_ways _ e (or_right _ _ (and_from _ _ (eq-eqb first 255 is) (le-leb 128 second high))))
-  ]),
-)
-
-pub IsInteger_from_test : (content : List ℕ) → is_integer content ≡ true → IsInteger content
-IsInteger_from_test [] e = absurd cc
-IsInteger_from_test (first ∷ []) e = record {
-  some = omega arith;
-  not_all_clear = λ long. absurd (omega arith);
-  not_all_set = λ long. absurd (omega arith);
-}
-IsInteger_from_test (first ∷ second ∷ octets) e =
-    let told = not_redundant first second (not-true (is_redundant first second) e) in
-    record { some = omega arith; not_all_clear = λ long. told.0; not_all_set = λ long. told.1 }
-
-redundant_not : (first second : ℕ) → (first ≡ 0 → 128 ≤ second) → (first ≡ 255 → second < 128) → is_redundant first second ≡ false
-redundant_not first second clear set =
-    or_from (first == 0 && nat_lt second 128) (first == 255 && nat_le 128 second) (elim (cases_eq first 0) [
-      | inl is ↦ and_right (first == 0) (nat_lt second 128) (le-ltb second 128 (clear is))
-      | inr not_is ↦ and_left (first == 0) (nat_lt second 128) (ne_eqb first 0 not_is)
-    ]) (elim (cases_eq first 255) [
-      | inl is ↦ and_right (first == 255) (nat_le 128 second) (lt-leb 128 second (set is))
-      | inr not_is ↦ and_left (first == 255) (nat_le 128 second) (ne_eqb first 255 not_is)
-    ])
-
-pub integer_test : (content : List ℕ) → IsInteger content → is_integer content ≡ true
-integer_test [] is = absurd (omega (arith, is.some))
-integer_test (first ∷ []) is = refl
-integer_test (first ∷ second ∷ octets) is =
-    not_from_false (is_redundant first second)
-    (redundant_not first second (is.not_all_clear (omega arith)) (is.not_all_set (omega arith)))
-
--- a number of 32 bits
+-- ---- an INTEGER of 32 bits
 
 pub IsIntegerOf_from_tests : (content : List ℕ) → AreOctets content → is_integer content ≡ true → is_u32 content ≡ true →
     (number_of content < 2 ^ 32) × IsIntegerOf (pos (number_of content)) content

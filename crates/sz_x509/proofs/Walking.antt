@@ -1,25 +1,21 @@
 -- A walk over extensions: the spots from the first one up to here, and those that are left.
-use Rattle.std.proofs.Common.{◌≡◌, ℕ, zero, suc, inl, inr, ◌<◌, ◌≤◌, true, false, List, [], ◌∷◌, ◌++◌, length, Option, Some, None, refl, sym, ap, subst, ◌∙◌, arith, length-drop}
 use Rattle.std.specs.Prelude.{bytes_eq, nat_lt}
 use Rattle.std.specs.List.{AllByRecursion}
-use Rattle.std.proofs.lemmas.Bool.{cases_Bool, eqb-false, le-ltb, lt-ltb, ne_eqb, or_left}
-use Rattle.sz_der.proofs.Front.{Clear_from_none}
+use Rattle.std.proofs.Common.{◌≡◌, ℕ, ◌<◌, ◌≤◌, true, false, List, [], ◌∷◌, ◌++◌, length, Option, Some, None, refl, sym, ap, subst, arith}
+use Rattle.std.proofs.lemmas.Bool.{le-ltb, lt-ltb, ne_eqb, or_left}
+use Rattle.sz_der.specs.Spots.{after, is_at_end, or_later, Spot, spot_of, spots_from}
 use Rattle.sz_der.specs.declared.reader.DerReader.{DerReader}
+use Rattle.sz_der.proofs.Front.{Clear_from_none}
+use Rattle.sz_der.proofs.SpotLists.{less_is_left, spots_end}
+use Rattle.sz_der.proofs.Steps.{at_end_is}
+use Rattle.sz_der.proofs.Spots.{item_of_part, no_fault_there, parts_of_none}
 use Rattle.sz_x509.specs.CertFault.{each_fault, extension_fault, Fault, identifier_at, part, stands_among}
 use Rattle.sz_x509.specs.CertPlaces.{AreBetween, BeginsExtension, LeadHere}
 use Rattle.sz_x509.specs.Extensions.{most_extensions}
-use Rattle.sz_x509.specs.Parts.{after, is_at_end, or_later, size_at, Spot, spot_of, spots_from, spots_upto}
 use Rattle.sz_x509.specs.declared.fault.CertKind.{CertKind}
 use Rattle.sz_x509.specs.declared.fault.CertKind.TheVariants as kinds
-use Rattle.sz_x509.proofs.Spots.{item_of_part, no_fault_there, parts_of_none}
 
 -- ---- less is left after an item
-
-pub less_is_left : (spot : Spot) → is_at_end spot ≡ false → length (after spot).left < length spot.left
-unfolding after is_at_end
-less_is_left spot more =
-    let some = eqb-false (length spot.left) 0 more in
-    omega (arith, length-drop (size_at spot) spot.left, some)
 
 pub more_at_part : (other : CertKind) (tag : ℕ) (spot : Spot) → part other tag spot ≡ None → is_at_end spot ≡ false
 unfolding is_at_end
@@ -33,49 +29,6 @@ pub shorter_after : (other : CertKind) (tag : ℕ) (old new : DerReader) → par
 unfolding spot_of
 shorter_after other tag old new e next =
     omega (arith, less_is_left (spot_of old) (more_at_part other tag (spot_of old) e), ap (λ (s : Spot). length s.left) next)
-
--- ---- spots one after another
-
-enough : (n m : ℕ) (spot : Spot) → length spot.left ≤ n → length spot.left ≤ m → spots_upto n spot ≡ spots_upto m spot
-unfolding spots_upto
-enough zero zero spot few less = refl
-enough zero (suc m) spot few less =
-    elim (cases_Bool (is_at_end spot)) [
-      | inl at_end ↦ rw at_end refl
-      | inr more ↦ absurd (omega (arith, less_is_left spot more))
-    ]
-enough (suc n) zero spot few less =
-    elim (cases_Bool (is_at_end spot)) [
-      | inl at_end ↦ rw at_end refl
-      | inr more ↦ absurd (omega (arith, less_is_left spot more))
-    ]
-enough (suc n) (suc m) spot few less =
-    elim (cases_Bool (is_at_end spot)) [
-      | inl at_end ↦ rw at_end refl
-      | inr more ↦
-          let fewer = less_is_left spot more in
-          rw more (ap (λ (xs : List Spot). spot ∷ xs) (enough n m (after spot) (omega (arith, fewer)) (omega (arith, fewer))))
-    ]
-
-upto_step : (n : ℕ) (spot : Spot) → length spot.left ≡ suc n → is_at_end spot ≡ false → spots_upto (suc n) spot ≡ spot ∷ spots_from (after spot)
-unfolding spots_upto
-upto_step n spot long more =
-    let fewer = less_is_left spot more in
-    rw more (ap (λ (xs : List Spot). spot ∷ xs) (enough n (length (after spot).left) (after spot) (omega (arith, fewer, long)) (omega arith)))
-
--- a length is 0 or one more than another
-predecessor : (n : ℕ) → (n ≡ 0 → ⊥) → (m : ℕ) × (n ≡ suc m)
-predecessor zero some = absurd (some refl)
-predecessor (suc m) some = (m, refl)
-
-pub spots_step : (spot : Spot) → is_at_end spot ≡ false → spots_from spot ≡ spot ∷ spots_from (after spot)
-spots_step spot more =
-    let long = predecessor (length spot.left) (λ e. omega (arith, less_is_left spot more)) in
-    ap (λ (n : ℕ). spots_upto n spot) long.1 ∙ upto_step long.0 spot long.1 more
-
-pub spots_end : (spot : Spot) → spot.left ≡ [] → spots_from spot ≡ []
-unfolding spots_upto
-spots_end spot nothing = rw nothing refl
 
 -- ---- faults one after another
 
@@ -186,5 +139,4 @@ unfolding spot_of
 not_longer a b h = h
 
 pub none_left : (reader : DerReader) → reader.left.now ≡ [] → spots_from (spot_of reader) ≡ []
-unfolding spot_of
-none_left reader nothing = spots_end (spot_of reader) nothing
+none_left reader nothing = spots_end (spot_of reader) (at_end_is reader nothing)

@@ -1,19 +1,21 @@
 -- A certificate as a whole: its bytes have no fault exactly where they are spelled as the relation says.
-use Rattle.std.proofs.Common.{◌≡◌, ℕ, inl, inr, true, false, List, [], ◌∷◌, ◌++◌, length, None, refl, sym, subst, ◌∙◌, arith}
 use Rattle.std.specs.List.{AllByRecursion}
+use Rattle.std.proofs.Common.{◌≡◌, ℕ, inl, inr, true, false, List, [], ◌∷◌, ◌++◌, length, None, refl, sym, subst, ◌∙◌, arith}
 use Rattle.std.proofs.lemmas.Bool.{cases_Bool}
 use Rattle.sz_der.specs.Der.{AreOctets, Der}
+use Rattle.sz_der.specs.Spots.{after, after_optional, content_at, front, inside, is_next, Spot, spots_from, whole_at}
 use Rattle.sz_der.specs.declared.tag.TheConstants.{SEQUENCE}
+use Rattle.sz_der.proofs.Spots.{end_from_nothing, Found, found_part, inside-left, no_item-stands, no_part-stands, nothing_left, parts_of_none, stands}
+use Rattle.sz_der.proofs.Joined.{alone, and_then, Der_with, last}
+use Rattle.sz_der.proofs.Optional.{absent, after_next, after_other, BeginsWithout, found_next, next_stands, Optional, present, without_item, without_nothing}
 use Rattle.sz_x509.specs.Certificate.{Certificate, CertOf, IsTbs, joined, TbsParts}
 use Rattle.sz_x509.specs.CertFault.{cert_fault, extensions_fault, extensions_spot, issuer_id_spot, issuer_spot, key_spot, serial_spot, stands_among, subject_id_spot, subject_spot, tbs_parts_fault, validity_spot}
 use Rattle.sz_x509.specs.CertPlaces.{extension_spots, FieldsAt, RestrictedAt, TbsAt}
 use Rattle.sz_x509.specs.Extensions.{AreExtensions, Extension, HasExtensions, Restrict, Restrictions}
-use Rattle.sz_x509.specs.Parts.{after, after_optional, content_at, front, inside, is_next, Spot, spots_from, whole_at}
 use Rattle.sz_x509.specs.declared.fault.CertKind.TheVariants as kinds
 use Rattle.sz_x509.specs.declared.tag.TheConstants.{EXTENSIONS, ISSUER_UNIQUE_ID, SUBJECT_UNIQUE_ID}
-use Rattle.sz_x509.proofs.Spots.{end_from_nothing, Found, found_part, inside-left, no_part-stands, nothing_left, parts_of_none, stands}
-use Rattle.sz_x509.proofs.Spelled.{algorithm_clear, alone, and_then, Der_with, IsAlgorithm_from_none, IsKey_from_none, IsSerial_from_none, IsSignature_from_none, IsValidity_from_none, IsVersion3_from_none, key_clear, last, serial_clear, signature_clear, validity_clear, version_clear}
-use Rattle.sz_x509.proofs.Chains.{absent, after_next, after_other, BeginsWithout, found_next, IsUniqueId_from_none, next_stands, Optional, present, unique_id_clear, without_item, without_nothing, without_unique_id}
+use Rattle.sz_x509.proofs.Spelled.{algorithm_clear, IsAlgorithm_from_none, IsKey_from_none, IsSerial_from_none, IsSignature_from_none, IsValidity_from_none, IsVersion3_from_none, key_clear, serial_clear, signature_clear, validity_clear, version_clear}
+use Rattle.sz_x509.proofs.Chains.{IsUniqueId_from_none, unique_id_clear, without_unique_id}
 use Rattle.sz_x509.proofs.ExtensionLists.{are_distinct, are_extensions, are_few, clear_each, extensions_at}
 use Rattle.sz_x509.proofs.Restricted.{each_value_is_clear, places_from_restrict, restrict_from_places}
 
@@ -37,11 +39,11 @@ HasExtensions_from_none field restrictions fits n at =
           let b = parts_of_none _ _ a.1 in
           let c = parts_of_none _ _ b.1 in
           let d = parts_of_none _ _ c.1 in
-          let here = found_next EXTENSIONS field fits next a.0 in
-          let sequence = found_part kinds.Der SEQUENCE (inside field) here.inside b.0 in
+          let here = found_next _ EXTENSIONS field fits next a.0 in
+          let sequence = found_part _ _ SEQUENCE (inside field) here.inside b.0 in
           let list = inside (inside field) in
           let are = are_extensions (length list.left) [] list (omega arith) sequence.inside c.0 in
-          let only = last (whole_at (inside field)) sequence.joined (nothing_left kinds.Der (after (inside field)) d.0) in
+          let only = last (whole_at (inside field)) sequence.joined (nothing_left _ _ (after (inside field)) d.0) in
           let restrict = restrict_from_places (spots_from list) restrictions are.1 (are_few (spots_from list) c.0) (are_distinct [] (spots_from list) c.0)
           (rw (spots_next field next) at at) in
           present field EXTENSIONS (HasExtensions restrictions) here next (record {
@@ -89,10 +91,10 @@ extensions_clear field restrictions piece is left =
           let restrict : Restrict (extensions_at (spots_from list)) restrictions = rw each.1 is.restrict in (
             rw (
               next,
-              here.is_item,
-              no_part-stands kinds.Der (inside field) SEQUENCE some.0 some.1 [] sequence,
+              no_item-stands kinds.Der here,
+              no_part-stands kinds.Der kinds.Der (inside field) SEQUENCE some.0 some.1 [] sequence,
               each.0,
-              end_from_nothing kinds.Der (after (inside field)) sequence.after_is,
+              end_from_nothing kinds.Der kinds.Der (after (inside field)) sequence.after_is,
             ) refl,
             rw (spots_next field next) (places_from_restrict (spots_from list) restrictions restrict),
             rw (after_next EXTENSIONS field next) here.after_is,
@@ -128,14 +130,14 @@ IsTbs_from_none spot fields found n at =
     let version = IsVersion3_from_none first found.inside a.0 in
     let serial = IsSerial_from_none (serial_spot first) version.1.after b.0 in
     let algorithm = IsAlgorithm_from_none (after (serial_spot first)) serial.1.after c.0 in
-    let issuer = found_part kinds.Der SEQUENCE (issuer_spot first) algorithm.1.after d.0 in
+    let issuer = found_part _ _ SEQUENCE (issuer_spot first) algorithm.1.after d.0 in
     let validity = IsValidity_from_none (validity_spot first) issuer.after e.0 in
-    let subject = found_part kinds.Der SEQUENCE (subject_spot first) validity.1.after f.0 in
+    let subject = found_part _ _ SEQUENCE (subject_spot first) validity.1.after f.0 in
     let key = IsKey_from_none (key_spot first) subject.after g.0 in
     let issuer_id = IsUniqueId_from_none ISSUER_UNIQUE_ID (issuer_id_spot first) key.1.after h.0 in
     let subject_id = IsUniqueId_from_none SUBJECT_UNIQUE_ID (subject_id_spot first) issuer_id.after i.0 in
     let extensions = HasExtensions_from_none (extensions_spot first) fields.restrictions subject_id.after j.0 at.restrictions in
-    let only = last extensions.piece extensions.joined (nothing_left kinds.Der (after_optional EXTENSIONS (extensions_spot first)) k.0) in
+    let only = last extensions.piece extensions.joined (nothing_left _ _ (after_optional EXTENSIONS (extensions_spot first)) k.0) in
     let tail = and_then (whole_at (key_spot first)) key.1.joined
     (and_then issuer_id.piece issuer_id.joined (and_then subject_id.piece subject_id.joined only)) in
     let names = and_then (whole_at (issuer_spot first)) issuer.joined (and_then (whole_at (validity_spot first)) validity.1.joined
@@ -193,14 +195,14 @@ tbs_clear first fields bytes is left =
         version.0,
         serial.0,
         algorithm.0,
-        no_part-stands kinds.Der (issuer_spot first) SEQUENCE _ _ _ issuer,
+        no_part-stands kinds.Der kinds.Der (issuer_spot first) SEQUENCE _ _ _ issuer,
         validity.0,
-        no_part-stands kinds.Der (subject_spot first) SEQUENCE _ _ _ subject,
+        no_part-stands kinds.Der kinds.Der (subject_spot first) SEQUENCE _ _ _ subject,
         key.0,
         issuer_id.0,
         subject_id.0,
         extensions.0,
-        end_from_nothing kinds.Der (after_optional EXTENSIONS (extensions_spot first)) extensions.2,
+        end_from_nothing kinds.Der kinds.Der (after_optional EXTENSIONS (extensions_spot first)) extensions.2,
       ) refl,
       record {
         serial = sym serial.1.content_is;
@@ -229,14 +231,14 @@ CertOf_from_none bytes fields fits n at =
     let e = parts_of_none _ _ d.1 in
     let f = parts_of_none _ _ e.1 in
     let g = parts_of_none _ _ f.1 in
-    let certificate = found_part kinds.Der SEQUENCE (front bytes) (rw (front-left bytes) fits) a.0 in
-    let tbs = found_part kinds.Der SEQUENCE (inside (front bytes)) certificate.inside b.0 in
+    let certificate = found_part _ _ SEQUENCE (front bytes) (rw (front-left bytes) fits) a.0 in
+    let tbs = found_part _ _ SEQUENCE (inside (front bytes)) certificate.inside b.0 in
     let algorithm = IsAlgorithm_from_none (after (inside (front bytes))) tbs.after d.0 in
     let signature = IsSignature_from_none kinds.Der (after (after (inside (front bytes)))) algorithm.1.after e.0 in
     let only = last (whole_at (after (after (inside (front bytes))))) signature.1.joined
-    (nothing_left kinds.Der (after (after (after (inside (front bytes))))) f.0) in
+    (nothing_left _ _ (after (after (after (inside (front bytes))))) f.0) in
     let parts = and_then (whole_at (inside (front bytes))) tbs.joined (and_then (whole_at (after (inside (front bytes)))) algorithm.1.joined only) in
-    let whole = sym (front-left bytes) ∙ last (whole_at (front bytes)) certificate.joined (nothing_left kinds.Der (after (front bytes)) g.0) in
+    let whole = sym (front-left bytes) ∙ last (whole_at (front bytes)) certificate.joined (nothing_left _ _ (after (front bytes)) g.0) in
     let item = Der_with (sym (inside-left (front bytes)) ∙ parts) certificate.is_item in
     record {
       algorithm = whole_at (after (inside (front bytes)));
@@ -260,13 +262,13 @@ cert_clear bytes fields is =
     let signature = signature_clear kinds.Der (after (after (inside (front bytes)))) fields.signature is.bits [] is.is_signature
     (alone is.bits algorithm.1) in (
       rw (
-        no_part-stands kinds.Der (front bytes) SEQUENCE (fields.tbs ++ (is.algorithm ++ is.bits)) bytes [] certificate,
-        no_part-stands kinds.Der (inside (front bytes)) SEQUENCE (joined is.is_tbs.parts fields) fields.tbs (is.algorithm ++ is.bits) tbs,
+        no_part-stands kinds.Der kinds.Der (front bytes) SEQUENCE (fields.tbs ++ (is.algorithm ++ is.bits)) bytes [] certificate,
+        no_part-stands kinds.Der kinds.Der (inside (front bytes)) SEQUENCE (joined is.is_tbs.parts fields) fields.tbs (is.algorithm ++ is.bits) tbs,
         parts.0,
         algorithm.0,
         signature.0,
-        end_from_nothing kinds.Der (after (after (after (inside (front bytes))))) signature.2.after_is,
-        end_from_nothing kinds.Der (after (front bytes)) certificate.after_is,
+        end_from_nothing kinds.Der kinds.Der (after (after (after (inside (front bytes))))) signature.2.after_is,
+        end_from_nothing kinds.Der kinds.Der (after (front bytes)) certificate.after_is,
       ) refl,
       record {
         whole = is.whole;

@@ -2,11 +2,12 @@
 -- item's header before its content, in the order of the bytes.
 use Rattle.std.specs.Prelude.{ℕ, ◌+◌, ◌&&◌, ◌||◌, ◌==◌, not, if◌then◌else◌, Bool, List, [], ◌∷◌, ◌++◌, length, take, drop, Option, None, bytes_eq, nat_lt}
 use Rattle.std.specs.List.{list_any}
+use Rattle.sz_der.specs.Integer.{is_integer}
+use Rattle.sz_der.specs.Spots.{after, after_optional, content_at, first_of, front, if_next, inside, is_next, no_end, no_integer, no_item, no_part, rule, Spot, spots_from, tag_at}
 use Rattle.sz_der.specs.declared.tag.TheConstants.{BIT_STRING, BOOLEAN, CONTEXT_CONSTRUCTED, INTEGER, OBJECT_IDENTIFIER, OCTET_STRING, SEQUENCE}
 use Rattle.sz_x509.specs.Certificate.{key_length}
-use Rattle.sz_x509.specs.Contents.{is_bits, is_boolean, is_integer, is_time, is_true_content, is_u32, is_whole_octets}
+use Rattle.sz_x509.specs.Contents.{is_bits, is_boolean, is_time, is_true_content, is_u32, is_whole_octets}
 use Rattle.sz_x509.specs.Extensions.{is_known, most_extensions}
-use Rattle.sz_x509.specs.Parts.{after, after_optional, content_at, first_of, front, if_next, inside, is_next, no_end, no_item, no_part, rule, Spot, spots_from, tag_at}
 use Rattle.sz_x509.specs.declared.fault.CertKind.{CertKind}
 use Rattle.sz_x509.specs.declared.fault.CertKind.TheVariants as kind
 use Rattle.sz_x509.specs.declared.identifier.TheConstants.{BASIC_CONSTRAINTS, HSS_LMS, KEY_USAGE, SUBJECT_KEY_IDENTIFIER}
@@ -39,8 +40,8 @@ algorithm_fault spot = first_of (
     ∷ end kind.Algorithm (after (inside spot))
     ∷ [])
 
-unfoldable pub integer_fault : Spot → Option Fault
-integer_fault spot = first_of (part kind.Der INTEGER spot ∷ typed is_integer spot ∷ [])
+abbrev pub integer_fault : Spot → Option Fault
+integer_fault spot = no_integer kind.Der kind.Der spot
 
 -- a BIT STRING of whole octets
 unfoldable pub octets_fault : CertKind → Spot → Option Fault

@@ -3,12 +3,12 @@ use Rattle.std.specs.Prelude.{◌≡◌, ◌<◌, ◌^◌, ℕ, ℤ, Bool, false
 use Rattle.std.specs.List.{AllByRecursion, find}
 use Rattle.sz_der.specs.Content.{HoldsBits}
 use Rattle.sz_der.specs.Der.{number_of}
+use Rattle.sz_der.specs.Spots.{after, content_at, front, inside, is_at_end, is_next, Spot, spots_from, tag_at, whole_at}
 use Rattle.sz_der.specs.declared.tag.TheConstants.{INTEGER, OBJECT_IDENTIFIER, SEQUENCE}
 use Rattle.sz_x509.specs.CertFault.{bits_of_key, extensions_spot, flag_at, identifier_at, issuer_spot, key_in, key_spot, octets_at, part, path_length_spot, serial_spot, subject_spot, validity_spot, value_spot}
 use Rattle.sz_x509.specs.Certificate.{Certificate}
 use Rattle.sz_x509.specs.Contents.{seconds_in}
 use Rattle.sz_x509.specs.Extensions.{Restrictions}
-use Rattle.sz_x509.specs.Parts.{after, content_at, front, inside, is_at_end, is_next, Spot, spots_from, tag_at, whole_at}
 use Rattle.sz_x509.specs.declared.fault.CertKind.TheVariants.{Der}
 use Rattle.sz_x509.specs.declared.identifier.TheConstants.{BASIC_CONSTRAINTS, KEY_USAGE, SUBJECT_KEY_IDENTIFIER}
 use Rattle.sz_x509.specs.declared.tag.TheConstants.{EXTENSIONS}

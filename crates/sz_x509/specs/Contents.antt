@@ -1,27 +1,18 @@
 -- Whether a content is one of its type, as tests of its octets, and the values that it then has.
-use Rattle.std.specs.Prelude.{ℕ, ℤ, ◌+◌, ◌-◌, ◌*◌, ◌%◌, ◌^◌, ◌&&◌, ◌||◌, ◌==◌, not, nat_lt, nat_le, pos, unsigned_abs, if◌then◌else◌, Bool, false, List, [], ◌∷◌, length, slice_index, bytes_eq}
+use Rattle.std.specs.Prelude.{ℕ, ℤ, ◌+◌, ◌-◌, ◌*◌, ◌%◌, ◌^◌, ◌&&◌, ◌||◌, ◌==◌, nat_lt, nat_le, pos, unsigned_abs, if◌then◌else◌, Bool, false, List, [], ◌∷◌, length, slice_index, bytes_eq}
 use Rattle.sz_calendar.specs.CivilTime.{CivilTime, unix_seconds}
 use Rattle.sz_calendar.specs.Gregorian.{month_lengths}
 use Rattle.sz_der.specs.Der.{number_of}
 use Rattle.sz_der.specs.Time.{utc_text, generalized_text}
 use Rattle.sz_der.specs.declared.tag.TheConstants.{GENERALIZED_TIME, UTC_TIME}
 
--- ---- BOOLEAN, INTEGER and BIT STRING (X.690 sections 8.2, 8.3 and 8.6)
+-- ---- BOOLEAN, INTEGER of 32 bits and BIT STRING (X.690 sections 8.2, 8.3 and 8.6)
 
 abbrev pub is_true_content : List ℕ → Bool
 is_true_content content = bytes_eq content (255 ∷ [])
 
 abbrev pub is_boolean : List ℕ → Bool
 is_boolean content = bytes_eq content (0 ∷ []) || is_true_content content
-
--- the first nine bits are all alike
-abbrev pub is_redundant : ℕ → ℕ → Bool
-is_redundant first second = (first == 0 && nat_lt second 128) || (first == 255 && nat_le 128 second)
-
-abbrev pub is_integer : List ℕ → Bool
-is_integer [] = false
-is_integer (first ∷ []) = not false
-is_integer (first ∷ second ∷ octets) = not (is_redundant first second)
 
 -- the number is from 0 on and has at most 32 bits
 abbrev pub is_u32 : List ℕ → Bool

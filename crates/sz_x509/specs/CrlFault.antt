@@ -1,9 +1,9 @@
 -- The first fault of a revocation list, as a function of its bytes: tables of rules over the items at their places.
 use Rattle.std.specs.Prelude.{ℕ, ◌||◌, not, if◌then◌else◌, Bool, List, [], ◌∷◌, Option, None, bytes_eq}
+use Rattle.sz_der.specs.Integer.{is_integer}
+use Rattle.sz_der.specs.Spots.{after, after_optional, content_at, each, first_of, front, if_next, inside, is_next, no_item, rule, Spot, spots_from}
 use Rattle.sz_der.specs.declared.tag.TheConstants.{CONTEXT_CONSTRUCTED, GENERALIZED_TIME, INTEGER, OBJECT_IDENTIFIER, OCTET_STRING, SEQUENCE, UTC_TIME}
 use Rattle.sz_x509.specs.CertFault.{algorithm_fault, end, Fault, flag_at, flag_fault, flag_spot, integer_fault, octets_fault, part, time_fault, typed, value_spot}
-use Rattle.sz_x509.specs.Contents.{is_integer}
-use Rattle.sz_x509.specs.Parts.{after, after_optional, content_at, each, first_of, front, if_next, inside, is_next, no_item, rule, Spot, spots_from}
 use Rattle.sz_x509.specs.declared.fault.CertKind.TheVariants as kind
 
 -- version 2, or none

@@ -1,12 +1,12 @@
 -- The fields of a revocation list that has no fault, at their places.
 use Rattle.std.specs.Prelude.{◌≡◌, ℕ, ℤ, if◌then◌else◌, List, [], Option, Some, None}
+use Rattle.sz_der.specs.Spots.{after, content_at, front, inside, is_next, Spot, whole_at}
 use Rattle.sz_der.specs.declared.tag.TheConstants.{SEQUENCE}
 use Rattle.sz_x509.specs.CertFault.{integer_fault, octets_at, part}
 use Rattle.sz_x509.specs.CertPlaces.{seconds_at}
 use Rattle.sz_x509.specs.CrlFault.{is_time_next, list_issuer_spot, next_update_spot, revoked_spot, this_update_spot}
-use Rattle.sz_x509.specs.Parts.{after, content_at, front, inside, is_next, Spot, whole_at}
-use Rattle.sz_x509.specs.declared.fault.CertKind.TheVariants.{Der}
 use Rattle.sz_x509.specs.RevocationList.{RevocationList}
+use Rattle.sz_x509.specs.declared.fault.CertKind.TheVariants.{Der}
 
 unfoldable pub next_update_at : Spot → Option ℤ
 next_update_at spot = if is_time_next spot then Some (seconds_at spot) else None

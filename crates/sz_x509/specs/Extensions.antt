@@ -4,8 +4,8 @@ use Rattle.std.specs.List.{AllByRecursion, find, list_any}
 use Rattle.sz_der.specs.Content.{IsBoolean, HoldsBits}
 use Rattle.sz_der.specs.Der.{Der}
 use Rattle.sz_der.specs.Integer.{IsIntegerOf}
+use Rattle.sz_der.specs.Spots.{AreEach}
 use Rattle.sz_der.specs.declared.tag.TheConstants.{BIT_STRING, BOOLEAN, INTEGER, OBJECT_IDENTIFIER, OCTET_STRING, SEQUENCE}
-use Rattle.sz_x509.specs.Parts.{AreEach}
 use Rattle.sz_x509.specs.declared.identifier.TheConstants.{AUTHORITY_KEY_IDENTIFIER, BASIC_CONSTRAINTS, CERTIFICATE_POLICIES, EXTENDED_KEY_USAGE, KEY_USAGE, SUBJECT_ALT_NAME, SUBJECT_KEY_IDENTIFIER}
 use Rattle.sz_x509.specs.declared.tag.TheConstants.{EXTENSIONS}
 

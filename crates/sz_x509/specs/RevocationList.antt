@@ -2,10 +2,10 @@
 use Rattle.std.specs.Prelude.{◌≡◌, ◌⊎◌, ℕ, ℤ, Bool, false, List, [], ◌∷◌, ◌++◌, Option, Some, None, bytes_eq}
 use Rattle.std.specs.List.{list_any}
 use Rattle.sz_der.specs.Der.{Der}
+use Rattle.sz_der.specs.Spots.{AreEach}
 use Rattle.sz_der.specs.declared.tag.TheConstants.{CONTEXT_CONSTRUCTED, INTEGER, SEQUENCE}
 use Rattle.sz_x509.specs.Certificate.{IsHssAlgorithm, IsName, IsSerial, IsSignature, IsTime}
 use Rattle.sz_x509.specs.Extensions.{Extension, IsExtension}
-use Rattle.sz_x509.specs.Parts.{AreEach}
 
 -- What is kept of a list. The issuer is a whole item, and the entries are those items one after another; times are
 -- seconds since 1970.

@@ -1,12 +1,10 @@
 -- What contracts see of the types of this crate.
-use Rattle.std.specs.Prelude.{ℕ, []}
+use Rattle.std.specs.Prelude.{[]}
 use Rattle.std.specs.Option.{option_copied}
 use Rattle.sz_x509.specs.Certificate.{Certificate}
 use Rattle.sz_x509.specs.Extensions.{Restrictions}
 use Rattle.sz_x509.specs.declared.cert.Cert.{Cert}
 use Rattle.sz_x509.specs.declared.extensions.Restrictions as found
-use Rattle.sz_x509.specs.declared.fault.CertFault.{CertFault}
-use Rattle.sz_x509.specs.declared.fault.CertKind.{CertKind}
 use Rattle.sz_x509.specs.declared.tbs.Tbs.{Tbs}
 
 -- what its extensions restrict a certificate to
@@ -56,7 +54,3 @@ view cert = record {
   restrictions = restrictions_of cert;
   signature = cert.signature.now;
 }
-
--- a fault, as its kind and its place
-abbrev pub at : CertFault → CertKind × ℕ
-at fault = (fault.kind, fault.place)

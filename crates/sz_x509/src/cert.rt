@@ -1,16 +1,18 @@
 //! Certificates (RFC 5280 section 4.1) with HSS/LMS keys and signatures (RFC 8708).
 
 ghost use Rattle.std.specs.Prelude.{◌≡◌, None, Some, IfOk, IfErr, IsOkAnd, OnOk};
+ghost use Rattle.sz_der.specs.Spots.{at};
 ghost use Rattle.sz_x509.specs.CertFault.{cert_fault};
 ghost use Rattle.sz_x509.specs.CertPlaces.{FieldsAt};
 ghost use Rattle.sz_x509.specs.Certificate.{Certificate, CertOf};
-ghost use Rattle.sz_x509.specs.View.{at, view};
+ghost use Rattle.sz_x509.specs.View.{view};
 
-use crate::parts::{expect_end, open_part, parts_of, take_algorithm, take_octets, take_part};
+use crate::parts::{take_algorithm, take_octets};
 use crate::tbs::read_tbs;
 use crate::{CertFault, CertKind};
 use sz_base::Seconds;
 use sz_der::DerReader;
+use sz_der::parts::{expect_end, open_part, parts_of, take_part};
 use sz_der::tag::SEQUENCE;
 
 /// A certificate. Its parts are slices of the bytes that it was read from.

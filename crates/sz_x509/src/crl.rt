@@ -1,18 +1,19 @@
 //! Revocation lists (RFC 5280 section 5) with HSS/LMS signatures (RFC 8708).
 
 ghost use Rattle.std.specs.Prelude.{◌≡◌, None, Some, ℕ, List, IfOk, IfErr, IsOkAnd, OnOk};
+ghost use Rattle.sz_der.specs.Spots.{at};
 ghost use Rattle.sz_x509.specs.CrlFault.{crl_fault};
 ghost use Rattle.sz_x509.specs.CrlPlaces.{CrlAt};
 ghost use Rattle.sz_x509.specs.RevocationList.{AreEntries, CrlOf, is_listed, RevocationList};
 ghost use Rattle.sz_x509.specs.CrlView.{list_view};
-ghost use Rattle.sz_x509.specs.View.{at};
 
 use crate::entries::take_serial;
-use crate::parts::{expect_end, open_part, parts_of, take_algorithm, take_octets, take_part};
+use crate::parts::{take_algorithm, take_octets};
 use crate::tbs_list::read_list;
 use crate::{CertFault, CertKind};
 use sz_base::Seconds;
 use sz_der::DerReader;
+use sz_der::parts::{expect_end, open_part, parts_of, take_part};
 use sz_der::tag::SEQUENCE;
 
 /// A revocation list. Its parts are slices of the bytes that it was read from.

@@ -1,17 +1,16 @@
 //! The entries of a revocation list (RFC 5280 section 5.1.2.6), and extensions that must not be critical.
 
 ghost use Rattle.std.specs.Prelude.{◌≡◌, ◌<◌, None, Some, length, IfOk, IfErr, OnErr, OnOk};
+ghost use Rattle.sz_der.specs.Spots.{after, after_optional, at, content_at, each, inside, spot_of, spots_from};
 ghost use Rattle.sz_x509.specs.CrlFault.{entry_extensions_fault, entry_fault, passed_over_fault, revoked_fault};
 ghost use Rattle.sz_x509.specs.CrlPlaces.{entries_at, BeginsEntry};
-ghost use Rattle.sz_x509.specs.Parts.{after, after_optional, content_at, each, inside, spot_of, spots_from};
-ghost use Rattle.sz_x509.specs.View.{at};
 
-use crate::parts::{
-    expect_end, fault_of, is_next, open_part, parts_of, take_flag, take_integer, take_item,
-    take_part, take_time,
-};
+use crate::parts::{take_flag, take_time};
 use crate::{CertFault, CertKind};
 use sz_der::DerReader;
+use sz_der::parts::{
+    expect_end, is_next, open_part, part_fault, parts_of, take_integer, take_item, take_part,
+};
 use sz_der::tag::{OBJECT_IDENTIFIER, OCTET_STRING, SEQUENCE};
 
 /// Takes revokedCertificates, where a SEQUENCE is next, and answers the entries in it.
@@ -49,7 +48,7 @@ fn take_entry(reader: &mut DerReader<'_>) -> Result<(), CertFault>
     ensures fault { IfErr result (λ fault. entry_fault (spot_of reader.old) ≡ Some (at fault)) }
 {
     let mut parts = open_part(reader, SEQUENCE, CertKind::Der)?;
-    let _serial = take_integer(&mut parts)?;
+    let _serial = take_integer(&mut parts, CertKind::Der)?;
     let _date = take_time(&mut parts)?;
     skip_entry_extensions(&mut parts)?;
     expect_end(&parts, CertKind::Der)
@@ -92,7 +91,7 @@ fn pass_over_extension(reader: &mut DerReader<'_>) -> Result<(), CertFault>
     let _identifier = take_part(&mut parts, OBJECT_IDENTIFIER, CertKind::Der)?;
     let critical = take_flag(&mut parts)?;
     if critical {
-        return Err(fault_of(&extension, CertKind::Extension));
+        return Err(part_fault(&extension, CertKind::Extension));
     }
     let _value = take_part(&mut parts, OCTET_STRING, CertKind::Der)?;
     expect_end(&parts, CertKind::Der)
@@ -106,5 +105,5 @@ pub(crate) fn take_serial<'a>(reader: &mut DerReader<'a>) -> Result<&'a [u8], Ce
     ensures err { OnErr result (¬ BeginsEntry (spot_of reader.old)) }
 {
     let mut parts = open_part(reader, SEQUENCE, CertKind::Der)?;
-    take_integer(&mut parts)
+    take_integer(&mut parts, CertKind::Der)
 }

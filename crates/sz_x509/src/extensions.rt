@@ -1,21 +1,22 @@
 //! The reader of a certificate's extensions (RFC 5280 section 4.2).
 
 ghost use Rattle.std.specs.Prelude.{◌≡◌, ◌<◌, None, Some, List, [], true, false, length, IfOk, IfErr, OnErr, OnOk};
+ghost use Rattle.sz_der.specs.Spots.{after, after_optional, at, content_at, inside, Spot, spot_of, spots_from};
 ghost use Rattle.sz_x509.specs.CertFault.{basic_constraints_fault, each_fault, extension_fault, extensions_fault, flag_at, identifier_at, key_identifier_fault, key_usage_fault, path_length_fault, path_length_spot, stands_among, value_fault, value_spot};
 ghost use Rattle.sz_x509.specs.CertPlaces.{Adds, BeginsExtension, extension_spots, LeadHere, path_length_at, RestrictedAt, UsageAt};
 ghost use Rattle.sz_x509.specs.Extensions.{is_known, most_extensions};
-ghost use Rattle.sz_x509.specs.Parts.{after, after_optional, content_at, inside, Spot, spot_of, spots_from};
-ghost use Rattle.sz_x509.specs.View.{at, extensions_of};
+ghost use Rattle.sz_x509.specs.View.{extensions_of};
 
 use crate::identifier::{
     AUTHORITY_KEY_IDENTIFIER, BASIC_CONSTRAINTS, CERTIFICATE_POLICIES, EXTENDED_KEY_USAGE,
     KEY_USAGE, SUBJECT_ALT_NAME, SUBJECT_KEY_IDENTIFIER,
 };
-use crate::parts::{
-    expect_end, fault_of, is_next, octets_fit, open_part, parts_of, take_flag, take_item, take_part,
-};
+use crate::parts::take_flag;
 use crate::tag::EXTENSIONS;
 use crate::{CertFault, CertKind};
+use sz_der::parts::{
+    expect_end, is_next, octets_fit, open_part, part_fault, parts_of, take_item, take_part,
+};
 use sz_der::tag::{BIT_STRING, INTEGER, OBJECT_IDENTIFIER, OCTET_STRING, SEQUENCE};
 use sz_der::{DerReader, integer_u32, named_bits};
 
@@ -98,15 +99,15 @@ fn take_extension<'a>(
     let here = *reader;
     let extension = take_part(reader, SEQUENCE, CertKind::Der)?;
     if before >= MOST_EXTENSIONS {
-        return Err(fault_of(&extension, CertKind::Extension));
+        return Err(part_fault(&extension, CertKind::Extension));
     }
     let mut parts = parts_of(&extension);
     let identifier = take_part(&mut parts, OBJECT_IDENTIFIER, CertKind::Der)?.content;
     if stands_before(all, &here, identifier) {
-        return Err(fault_of(&extension, CertKind::Extension));
+        return Err(part_fault(&extension, CertKind::Extension));
     }
     if take_flag(&mut parts)? && !is_known(identifier) {
-        return Err(fault_of(&extension, CertKind::Extension));
+        return Err(part_fault(&extension, CertKind::Extension));
     }
     let value = open_part(&mut parts, OCTET_STRING, CertKind::Der)?;
     expect_end(&parts, CertKind::Der)?;
@@ -208,8 +209,8 @@ fn take_path_length(reader: &mut DerReader<'_>) -> Result<Option<u32>, CertFault
     octets_fit(item.content);
     match integer_u32(&item) {
         Ok(Some(path_len)) => Ok(Some(path_len)),
-        Ok(None) => Err(fault_of(&item, CertKind::Extension)),
-        Err(_) => Err(fault_of(&item, CertKind::Der)),
+        Ok(None) => Err(part_fault(&item, CertKind::Extension)),
+        Err(_) => Err(part_fault(&item, CertKind::Der)),
     }
 }
 
@@ -222,7 +223,7 @@ fn read_key_usage(value: &DerReader<'_>) -> Result<u16, CertFault>
     let mut items = *value;
     let item = take_part(&mut items, BIT_STRING, CertKind::Der)?;
     let Ok(usage) = named_bits(&item) else {
-        return Err(fault_of(&item, CertKind::Der));
+        return Err(part_fault(&item, CertKind::Der));
     };
     expect_end(&items, CertKind::Der)?;
     Ok(usage)

@@ -1,5 +1,7 @@
 //! Why a certificate or a revocation list was not read.
 
+use sz_der::{PartFault, PartKind};
+
 /// Why a certificate or a revocation list was not read.
 #[derive(Clone, Copy, Debug, PartialEq, Eq)]
 pub enum CertKind {
@@ -17,11 +19,13 @@ pub enum CertKind {
     Extension,
 }
 
-/// A fault, and where it is: the place of the item's tag, counted from 0.
-#[derive(Clone, Copy, Debug, PartialEq, Eq)]
-pub struct CertFault {
-    /// What is wrong.
-    pub kind: CertKind,
-    /// The place of the item's tag.
-    pub place: usize,
+impl PartKind for CertKind {
+    ghost use Rattle.sz_x509.specs.declared.fault.CertKind.TheVariants.{Der};
+
+    ghost BROKEN = { Der };
+
+    const BROKEN: CertKind = CertKind::Der;
 }
+
+/// A fault, and where it is.
+pub type CertFault = PartFault<CertKind>;

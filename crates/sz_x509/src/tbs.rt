@@ -1,19 +1,19 @@
 //! The reader of the parts of TBSCertificate (RFC 5280 section 4.1), in their order.
 
 ghost use Rattle.std.specs.Prelude.{◌≡◌, true, false, None, Some, IfOk, IfErr, IfNone, IfSome, OnOk};
+ghost use Rattle.sz_der.specs.Spots.{after, after_optional, at, inside, spot_of};
 ghost use Rattle.sz_x509.specs.CertFault.{holds_key, key_fault, key_in, tbs_parts_fault, unique_id_fault, validity_fault, version_fault};
 ghost use Rattle.sz_x509.specs.CertPlaces.{key_at, seconds_at, TbsAt};
-ghost use Rattle.sz_x509.specs.Parts.{after, after_optional, inside, spot_of};
-ghost use Rattle.sz_x509.specs.View.{at, fields_of};
+ghost use Rattle.sz_x509.specs.View.{fields_of};
 
 use crate::extensions::{Restrictions, take_extensions};
-use crate::parts::{
-    expect_end, fault_of, is_next, open_part, take_algorithm, take_integer, take_item, take_octets,
-    take_part, take_time,
-};
+use crate::parts::{take_algorithm, take_octets, take_time};
 use crate::tag::{ISSUER_UNIQUE_ID, SUBJECT_UNIQUE_ID};
 use crate::{CertFault, CertKind};
 use sz_base::Seconds;
+use sz_der::parts::{
+    expect_end, is_next, open_part, part_fault, take_integer, take_item, take_part,
+};
 use sz_der::tag::{CONTEXT_CONSTRUCTED, INTEGER, SEQUENCE};
 use sz_der::{DerReader, integer};
 
@@ -44,7 +44,7 @@ pub(crate) fn read_tbs<'a>(first: &DerReader<'a>) -> Result<Tbs<'a>, CertFault>
 {
     let mut parts = *first;
     take_version(&mut parts)?;
-    let serial = take_integer(&mut parts)?;
+    let serial = take_integer(&mut parts, CertKind::Der)?;
     take_algorithm(&mut parts)?;
     let issuer = take_part(&mut parts, SEQUENCE, CertKind::Der)?;
     let (not_before, not_after) = take_validity(&mut parts)?;
@@ -77,10 +77,10 @@ fn take_version(reader: &mut DerReader<'_>) -> Result<(), CertFault>
     let mut parts = open_part(reader, CONTEXT_CONSTRUCTED, CertKind::Version)?;
     let version = take_part(&mut parts, INTEGER, CertKind::Version)?;
     let Ok(octets) = integer(&version) else {
-        return Err(fault_of(&version, CertKind::Der));
+        return Err(part_fault(&version, CertKind::Der));
     };
     if octets != VERSION_3.as_slice() {
-        return Err(fault_of(&version, CertKind::Version));
+        return Err(part_fault(&version, CertKind::Version));
     }
     expect_end(&parts, CertKind::Version)
 }
@@ -111,7 +111,7 @@ fn take_key<'a>(reader: &mut DerReader<'a>) -> Result<&'a [u8], CertFault>
     take_algorithm(&mut parts)?;
     let (bits, octets) = take_octets(&mut parts, CertKind::Key)?;
     let Some(key) = key_in(octets) else {
-        return Err(fault_of(&bits, CertKind::Key));
+        return Err(part_fault(&bits, CertKind::Key));
     };
     expect_end(&parts, CertKind::Key)?;
     Ok(key)

@@ -1,19 +1,16 @@
 //! The reader of the parts of TBSCertList (RFC 5280 section 5.1.2), in their order.
 
 ghost use Rattle.std.specs.Prelude.{◌≡◌, None, Some, IfOk, IfErr, OnOk};
+ghost use Rattle.sz_der.specs.Spots.{after_optional, at, spot_of};
 ghost use Rattle.sz_x509.specs.CrlFault.{after_next_update, is_time_next, list_algorithm_spot, list_extensions_fault, list_parts_fault, list_version_fault, next_update_fault};
 ghost use Rattle.sz_x509.specs.CrlPlaces.{ListAt, next_update_at};
 ghost use Rattle.sz_x509.specs.CrlView.{list_fields, seconds_of};
-ghost use Rattle.sz_x509.specs.Parts.{after_optional, spot_of};
-ghost use Rattle.sz_x509.specs.View.{at};
 
 use crate::entries::{pass_over_extensions, take_entries};
-use crate::parts::{
-    expect_end, fault_of, is_next, open_part, parts_of, take_algorithm, take_item, take_part,
-    take_time,
-};
+use crate::parts::{take_algorithm, take_time};
 use crate::{CertFault, CertKind};
 use sz_base::Seconds;
+use sz_der::parts::{expect_end, is_next, open_part, part_fault, parts_of, take_item, take_part};
 use sz_der::tag::{CONTEXT_CONSTRUCTED, GENERALIZED_TIME, INTEGER, SEQUENCE, UTC_TIME};
 use sz_der::{DerReader, integer};
 
@@ -67,10 +64,10 @@ fn skip_version(reader: &mut DerReader<'_>) -> Result<(), CertFault>
     }
     let version = take_item(reader)?;
     let Ok(octets) = integer(&version) else {
-        return Err(fault_of(&version, CertKind::Der));
+        return Err(part_fault(&version, CertKind::Der));
     };
     if octets != VERSION_2.as_slice() {
-        return Err(fault_of(&version, CertKind::Version));
+        return Err(part_fault(&version, CertKind::Version));
     }
     Ok(())
 }

@@ -100,7 +100,7 @@ const ONE: &[&[u8]] = &[b"server:a:80"];
 
 const BOTH: &[&[u8]] = &[b"server:a:80", b"server:b:80"];
 
-const ROWS: [Row; 5] = [
+static ROWS: [Row; 5] = [
     Row {
         words: ONE,
         replies: [Served::Right, Served::Absent],

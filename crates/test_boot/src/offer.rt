@@ -117,7 +117,7 @@ const HASH: Option<[u8; 32]> = Some(digests::IMAGE);
 // An offer, what the second server replies, and the outcome. The record of the device has 29 bytes; committed it has 8
 // more for a time, 1 for a nonce, 8 for the evidence, 1 for how the configuration is taken, 7 for what is absent and
 // for lengths, and the configuration.
-const OFFERS: [(Offer, &[u8], Outcome); 5] = [
+static OFFERS: [(Offer, &[u8], Outcome); 5] = [
     ((b"1", HASH, 16_314), GIVES, (Told::Satisfied, 0, false)),
     (
         (b"1", HASH, 16_315),
@@ -131,7 +131,7 @@ const OFFERS: [(Offer, &[u8], Outcome); 5] = [
 
 #[test]
 fn an_offer_is_taken_or_turned_down_for_the_first_reason(rt: HostRuntime) -> Result<(), Fail> {
-    for (offer, reply, wanted) in OFFERS {
+    for &(offer, reply, wanted) in &OFFERS {
         assert!(rt; outcome_of(rt.alloc(), offer, &[WRONG, reply], 0)? == wanted);
     }
     Ok(())
@@ -139,14 +139,14 @@ fn an_offer_is_taken_or_turned_down_for_the_first_reason(rt: HostRuntime) -> Res
 
 // A call of the disk behind those that find its device, and the outcome where it fails. The second takes the image,
 // the third syncs it.
-const FAILURES: [(u64, Outcome); 2] = [
+static FAILURES: [(u64, Outcome); 2] = [
     (2, (Told::DiskFault, 1, false)),
     (3, (Told::DiskFault, 1, true)),
 ];
 
 #[test]
 fn a_disk_that_fails_ends_the_trial(rt: HostRuntime) -> Result<(), Fail> {
-    for (call, wanted) in FAILURES {
+    for &(call, wanted) in &FAILURES {
         assert!(rt; outcome_of(rt.alloc(), (b"2", HASH, 0), &[GIVES], call)? == wanted);
     }
     Ok(())

@@ -67,7 +67,7 @@ fn plain(alloc: Global, identifier: &[u8], inner: &[u8]) -> Result<Bytes, OutOfM
 }
 
 // The octets of identifiers, the types that have them, what a message holds, and its content.
-const KINDS: [(&[u8], Kind<'static>, &[u8], &[u8]); 6] = [
+static KINDS: [(&[u8], Kind<'static>, &[u8], &[u8]); 6] = [
     (
         b"\x2A\x86\x48\x86\xF7\x0D\x01\x07\x01",
         Kind::Data,
@@ -131,7 +131,7 @@ const CONVEYED: &[u8] = b"{\"ietf-sztp-conveyed-info:onboarding-information\":\
     {\"configuration\":\"aG9zdG5hbWUgYTEK\",\"configuration-handling\":\"replace\"}}";
 
 // Signed messages of other software: the type, what their signer is known by, and whether it has signed attributes.
-const SIGNED_BY_OTHERS: [(&str, Kind<'static>, Identifier<'static>, bool); 3] = [
+static SIGNED_BY_OTHERS: [(&str, Kind<'static>, Identifier<'static>, bool); 3] = [
     (
         KEY_IDENTIFIER,
         Kind::ConveyedJson,
@@ -220,7 +220,7 @@ fn a_certificate_alone_of_other_software(rt: HostRuntime) -> Result<(), Fail> {
 }
 
 // Messages of id-data and of signed data, and the place of their first fault.
-const FAULTS: [(&[u8], InfoKind, usize); 10] = [
+static FAULTS: [(&[u8], InfoKind, usize); 10] = [
     (b"", InfoKind::Der, 0),
     (&[0; 16], InfoKind::Shape, 0),
     (
@@ -330,7 +330,7 @@ fn copies(alloc: Global, bytes: &[u8], count: u8) -> Result<Bytes, OutOfMemory> 
 }
 
 // Certificates, lists and signers of a message, and the limit that is passed, with its place.
-const COUNTS: [(u8, u8, u8, Option<(u8, usize)>); 4] = [
+static COUNTS: [(u8, u8, u8, Option<(u8, usize)>); 4] = [
     (16, 8, 4, None),
     (17, 0, 0, Some((16, 69))),
     (0, 9, 0, Some((8, 53))),
@@ -392,7 +392,7 @@ const OTHER_TAG: &[u8] =
 const OTHER_TYPE: &[u8] = b"\x30\x07\x06\x01\x2A\x31\x02\x30\x80";
 
 // Three attributes of a signer, and their fault, with its place before the end of the attributes.
-const ATTRIBUTES: [([&[u8]; 3], Option<(InfoKind, usize)>); 9] = [
+static ATTRIBUTES: [([&[u8]; 3], Option<(InfoKind, usize)>); 9] = [
     ([OTHER_TYPE, TYPE, DIGEST], None),
     ([b"", b"", b""], Some((InfoKind::Attribute, 0))),
     ([b"", b"", TYPE], Some((InfoKind::Attribute, 0))),

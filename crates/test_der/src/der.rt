@@ -24,7 +24,7 @@ const AT_TAG: DerFault = DerFault {
 };
 
 // Bytes, a place in them, and what is wrong with the item there.
-const FAULTS: [(&[u8], usize, DerKind); 31] = [
+static FAULTS: [(&[u8], usize, DerKind); 31] = [
     (b"", 0, DerKind::Short),
     (b"\x1F", 0, DerKind::HighTag),
     (b"\x1F\x01\x00", 0, DerKind::HighTag),
@@ -66,7 +66,7 @@ fn each_fault_at_its_place(rt: HostRuntime) {
 }
 
 // The length of a content, and the tag and length octets that stand before it.
-const LENGTHS: [(usize, &[u8]); 7] = [
+static LENGTHS: [(usize, &[u8]); 7] = [
     (0, b"\x04\x00"),
     (127, b"\x04\x7F"),
     (128, b"\x04\x81\x80"),
@@ -99,7 +99,7 @@ fn lengths_at_their_ends(rt: HostRuntime) -> Result<(), Fail> {
 }
 
 // INTEGERs by value, with their minimal octets.
-const NUMBERS: [(u32, &[u8]); 9] = [
+static NUMBERS: [(u32, &[u8]); 9] = [
     (0, b"\x00"),
     (127, b"\x7F"),
     (128, b"\x00\x80"),
@@ -180,7 +180,7 @@ enum Reading {
 }
 
 // A tag and a content, and what is read of their item.
-const CONTENTS: [(u8, &[u8], Reading); 38] = [
+static CONTENTS: [(u8, &[u8], Reading); 38] = [
     (tag::INTEGER, b"\x00", Reading::Integer(Ok(b"\x00"))),
     (tag::INTEGER, b"\x80", Reading::Integer(Ok(b"\x80"))),
     (tag::INTEGER, b"\x00\x80", Reading::Integer(Ok(b"\x00\x80"))),
@@ -283,7 +283,7 @@ fn contents_of_each_type(rt: HostRuntime) {
 }
 
 // A tag and a text, and the second that they name, where they name one.
-const TIMES: [(u8, &str, Option<i64>); 43] = [
+static TIMES: [(u8, &str, Option<i64>); 43] = [
     (tag::UTC_TIME, "491231235959Z", Some(2_524_607_999)),
     (tag::UTC_TIME, "500101000000Z", Some(-631_152_000)),
     (tag::UTC_TIME, "691231235959Z", Some(-1)),

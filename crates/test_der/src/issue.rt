@@ -78,7 +78,7 @@ fn is_said(bytes: &[u8], row: &CertRow) -> bool {
         && (read.ca, read.path_len, read.usage) == (row.ca, row.path_len, Some(row.usage))
 }
 
-const CERTIFICATES: [CertRow; 2] = [
+static CERTIFICATES: [CertRow; 2] = [
     // An authority at the turn to 2050.
     CertRow {
         serial: 128,
@@ -186,7 +186,7 @@ fn is_list_said(bytes: &[u8], row: &ListRow) -> bool {
         && !read.lists(b"\x02")
 }
 
-const LISTS: [ListRow; 2] = [
+static LISTS: [ListRow; 2] = [
     // Three entries at the turn to 2050.
     ListRow {
         issuer: b"Site authority",

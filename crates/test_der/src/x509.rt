@@ -15,7 +15,7 @@ const DAY_1_OF_2020: Seconds = Seconds(1_577_836_800);
 const DAY_1_OF_2040: Seconds = Seconds(2_208_988_800);
 
 // The parts of TBSCertificate one after another, the algorithm, the signature, and what stands behind the certificate.
-const PARTS: [&[u8]; 12] = [
+static PARTS: [&[u8]; 12] = [
     b"\xA0\x03\x02\x01\x02",
     b"\x02\x01\x07",
     b"\x30\x0D\x06\x0B\x2A\x86\x48\x86\xF7\x0D\x01\x09\x10\x03\x11",
@@ -149,7 +149,7 @@ type Restrictions = (bool, Option<u32>, Option<u16>, Option<&'static [u8]>);
 const UNRESTRICTED: Restrictions = (false, None, None, None);
 
 // A part in place of the one there, and what the certificate is restricted to.
-const OTHER_PARTS: [(usize, &[u8], Restrictions); 21] = [
+static OTHER_PARTS: [(usize, &[u8], Restrictions); 21] = [
     (1, b"\x02\x01\x00", UNRESTRICTED),
     (1, b"\x02\x02\xFF\x7F", UNRESTRICTED),
     (
@@ -276,7 +276,7 @@ fn parts_of_other_forms(rt: HostRuntime) -> Result<(), Fail> {
 
 // A part in place of the one there, and the fault. The first part is at place 6, or before it where a short key makes
 // lengths shorter; the extensions are at 169, their first one at 173, the signature at 184.
-const FAULTS: [(usize, &[u8], CertKind, usize); 38] = [
+static FAULTS: [(usize, &[u8], CertKind, usize); 38] = [
     (0, b"", CertKind::Version, 6),
     (0, b"\xA0\x03\x02\x01\x01", CertKind::Version, 8),
     (0, b"\xA0\x05\x02\x01\x02\x05\x00", CertKind::Version, 11),

@@ -52,7 +52,7 @@ fn a_folder_goes_on_or_fails(rt: HostRuntime) -> Result<(), Fail> {
     Ok(())
 }
 
-// The file is opened once, and its folder once more at the first sync.
+// The file is opened once, and its folder once more at the first sync. Once a sync was refused, all is.
 #[test]
 fn a_disk_goes_on_or_fails(rt: HostRuntime) -> Result<(), Fail> {
     for (fault, read, written, synced) in [
@@ -78,8 +78,11 @@ fn a_disk_goes_on_or_fails(rt: HostRuntime) -> Result<(), Fail> {
         assert!(rt; disk.sync().is_ok() == synced);
         if synced {
             assert!(rt; runtime.opened.get() == 2);
-            disk.sync()?;
-            assert!(rt; runtime.opened.get() == 2);
+        }
+        assert!(rt; disk.sync().is_ok() == synced);
+        assert!(rt; runtime.opened.get() == if synced { 2 } else { 1 });
+        if read {
+            assert!(rt; disk.read(4, &mut into).is_ok() == synced);
         }
     }
     Ok(())
@@ -168,6 +171,13 @@ fn a_disk_is_one_process_alone(rt: HostRuntime) -> Result<(), Fail> {
     first.sync()?;
     let metadata = fs::metadata(&rt, &name)?;
     assert!(rt; metadata.len() == 70_003);
+    let mut folder = RealFolder::create(&rt, rt.alloc());
+    assert!(rt;
+        folder
+            .write(&text(rt.alloc(), name.as_bytes())?, b"over")
+            .is_err()
+    );
+    assert!(rt; fs::metadata(&rt, &name)?.len() == 70_003);
     let mut second = FileDisk::create(&rt, rt.alloc(), text(rt.alloc(), name.as_bytes())?);
     assert!(rt; second.read(0, &mut into).is_err());
     drop(first);

@@ -108,8 +108,12 @@ impl OpenFile for OneFile<'_> {
         }
     }
 
-    fn set_len(&self, _size: u64) -> io::Result<()> {
-        Err(unsupported())
+    fn set_len(&self, size: u64) -> io::Result<()> {
+        if size > 0 {
+            return Err(unsupported());
+        }
+        self.from.bytes.set([0; 8]);
+        Ok(())
     }
 
     fn sync_all(&self) -> io::Result<()> {

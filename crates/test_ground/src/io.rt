@@ -170,7 +170,7 @@ fn answers<N: Net>(alloc: Global, net: &mut N, step: Step) -> Result<bool, BaseF
     let mut into = [0; 8];
     match step {
         Step::Open(port, succeeds) => {
-            Ok(net.connect(&at_port(alloc, port)?).is_ok() == succeeds)
+            Ok(net.connect(&at_port(alloc, port)?, 0).is_ok() == succeeds)
         }
         Step::Send(bytes, succeeds) => Ok(net.send(bytes).is_ok() == succeeds),
         Step::Receive(room, bytes) => match net.receive(&mut into[..room.min(8)]) {

@@ -32,7 +32,7 @@ fn shows(alloc: Global, row: Row) -> Result<bool, Fail> {
         false => scripted(alloc, &[], fails)?,
     };
     let target = Target::read(alloc, b"10.0.0.2:8443")?;
-    let came = open(&mut net, &target, b"GET");
+    let came = open(&mut net, &target, 0, b"GET");
     net.close();
     let [exchange] = net.past() else {
         return Err("not one exchange".into());

@@ -57,7 +57,7 @@ const SHOWN: &[u8] = b"serial A1\nstage onboarded\nrunning os 2\nimage 0 4000000
 const AUDITED: &[u8] = b"image authorised\nconfiguration authorised\n";
 
 // what the committed device is shown and audited as
-const KEPT: [Row<'static>; 2] = [(SHOW, ALONE, SHOWN, 0), (AUDIT, ALONE, AUDITED, 0)];
+static KEPT: [Row<'static>; 2] = [(SHOW, ALONE, SHOWN, 0), (AUDIT, ALONE, AUDITED, 0)];
 
 // the maker, two intermediates, the voucher's signer below them, and the owner, whose own certificate is pinned
 const MAKER: CertTemplate = CertTemplate {

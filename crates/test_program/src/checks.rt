@@ -56,7 +56,7 @@ const SHUT: Given<'static> = Given {
 };
 
 // the call of the folder that fails, or 0, and the row
-const ROWS: [(u64, Row<'static>); 13] = [
+static ROWS: [(u64, Row<'static>); 13] = [
     (0, (&[], ALONE, b"usage\n", 2)),
     (0, (&[b"check", b"p", b"m"], ALONE, b"usage\n", 2)),
     (
@@ -97,7 +97,7 @@ const ROWS: [(u64, Row<'static>); 13] = [
 #[test]
 fn words_and_faults_have_their_line_and_status(rt: HostRuntime) -> Result<(), Fail> {
     let alloc = rt.alloc();
-    for (fails, row) in ROWS {
+    for &(fails, row) in &ROWS {
         let site = site(alloc, MESSAGE, SIGNATURE, fails)?;
         let (all, _) = prints(&rt, alloc, site, &[row])?;
         assert!(rt; all);

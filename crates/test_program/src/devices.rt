@@ -247,7 +247,7 @@ const MANY: &[&[u8]] = &[
 #[test]
 fn refusals_of_the_commands_of_a_device(rt: HostRuntime) -> Result<(), Fail> {
     let alloc = rt.alloc();
-    let rows: [Row<'_>; 14] = [
+    let rows: [Row<'_>; 18] = [
         (&[b"init", b"id"], ALONE, b"usage\n", 2),
         (&[b"init", b"id", b"d"], ALONE, b"usage\n", 2),
         (&[b"onboard"], ALONE, b"usage\n", 2),
@@ -255,6 +255,15 @@ fn refusals_of_the_commands_of_a_device(rt: HostRuntime) -> Result<(), Fail> {
         (&[b"onboard", b"@d", b"cd:u"], ALONE, b"usage\n", 2),
         (MANY, ALONE, b"usage\n", 2),
         (&[b"show", b"@"], ALONE, b"usage\n", 2),
+        (&[b"init", b"n", b"@n"], ALONE, b"usage\n", 2),
+        (&[b"onboard", b"@n", b"dhcp4:n"], ALONE, b"usage\n", 2),
+        (
+            &[b"onboard", b"@n", b"usb:n", b"dhcp6:n"],
+            ALONE,
+            b"usage\n",
+            2,
+        ),
+        (&[b"onboard", b"@n", b"dns:n:a"], ALONE, b"usage\n", 2),
         (&[b"init", b"x", b"@n"], ALONE, b"no file: x\n", 33),
         (
             &[b"init", b"short", b"@n"],

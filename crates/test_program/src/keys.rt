@@ -54,13 +54,13 @@ const SIGN: &[&[u8]] = &[b"sign", b"m", b"t", b"@k"];
 
 const KEYGEN: &[&[u8]] = &[b"keygen", b"5/8", b"p", b"@k"];
 
-const FIRST_LEAF: [Row<'static>; 3] = [
+static FIRST_LEAF: [Row<'static>; 3] = [
     (SIGN, ALONE, b"not initialised\n", 40),
     (KEYGEN, DRAWS, b"key 32\n", 0),
     (SIGN, ALONE, b"leaf 0\n", 0),
 ];
 
-const LAST_LEAF: [Row<'static>; 2] = [
+static LAST_LEAF: [Row<'static>; 2] = [
     (SIGN, ALONE, b"leaf 31\n", 0),
     (SIGN, ALONE, b"exhausted: 32 of 32\n", 50),
 ];
@@ -96,7 +96,7 @@ fn a_key_signs_as_other_software_does_until_no_leaf_is_left(rt: HostRuntime) -> 
     Ok(())
 }
 
-const REFUSED: [Row<'static>; 8] = [
+static REFUSED: [Row<'static>; 11] = [
     (KEYGEN, DRAWS, b"key 32\n", 0),
     (KEYGEN, DRAWS_OTHERS, b"refused: in-use\n", 60),
     (
@@ -119,6 +119,9 @@ const REFUSED: [Row<'static>; 8] = [
         33,
     ),
     (&[b"keygen", b"5/8", b"q", b"@"], DRAWS_NONE, b"usage\n", 2),
+    (&[b"keygen", b"5/8", b"k", b"@k"], DRAWS_NONE, b"usage\n", 2),
+    (&[b"sign", b"x", b"k", b"@k"], DRAWS_NONE, b"usage\n", 2),
+    (&[b"sign", b"k", b"x", b"@k"], DRAWS_NONE, b"usage\n", 2),
     (
         &[b"sign", b"x", b"t", b"@j"],
         DRAWS_NONE,

@@ -89,7 +89,7 @@ fn is_read(alloc: Global, payload: &[u8], nonce: Option<[u8; 16]>, stored: u64) 
 }
 
 // A payload, the nonce of its image, and the size of the stored form of what is read.
-const VERSIONS: [(&[u8], Option<[u8; 16]>, u64); 2] = [
+static VERSIONS: [(&[u8], Option<[u8; 16]>, u64); 2] = [
     (SECOND, Some(DRAWN), 146),
     (FIRST, None, 130),
 ];
@@ -126,7 +126,7 @@ fn the_second_version_is_written(rt: HostRuntime) {
 }
 
 // A place in the second version, the byte that is put there, and the place of the first wrong byte.
-const WRONG_BYTES: [(usize, u8, usize); 27] = [
+static WRONG_BYTES: [(usize, u8, usize); 27] = [
     // The version, 0 and 3.
     (0, 0, 0),
     (0, 3, 0),

@@ -43,7 +43,7 @@ enum Told {
 }
 
 // What a device keeps, and what is found of its image and of its configuration.
-const AUDITS: [(Kept, Option<Told>, Option<Told>); 6] = [
+static AUDITS: [(Kept, Option<Told>, Option<Told>); 6] = [
     (
         Kept::Configuration(b"hostname a1\n"),
         None,

@@ -15,7 +15,7 @@ mod steps;
 // What a slot holds, and where the two areas begin.
 type Places = (u32, u64, u64);
 
-const LAYOUTS: [(u64, Option<Places>); 6] = [
+static LAYOUTS: [(u64, Option<Places>); 6] = [
     (SIZE - 64, None),
     (SIZE, Some((16_368, 262_144, 524_288))),
     (SIZE + 32, None),
@@ -34,7 +34,7 @@ fn places_of(size: u64) -> Option<Places> {
 
 #[test]
 fn layouts_are_those_of_their_sizes(rt: HostRuntime) {
-    for (size, places) in LAYOUTS {
+    for &(size, places) in &LAYOUTS {
         assert!(rt; places_of(size) == places);
     }
 }
@@ -77,7 +77,7 @@ fn the_greatest_record_fits_and_the_next_does_not(rt: HostRuntime) -> Result<(),
 }
 
 // The place of a byte, another byte, and how the device is told to be damaged by it. The payload stands from 16 on.
-const DAMAGES: [(u64, u8, StateFault); 4] = [
+static DAMAGES: [(u64, u8, StateFault); 4] = [
     // the version, and the number of certificates
     (16, 3, StateFault::BadRecord { place: 0, value: 3 }),
     (
@@ -117,7 +117,7 @@ fn fault_by(alloc: Global, at: u64, byte: u8) -> Result<Option<StateFault>, Fail
 
 #[test]
 fn a_wrong_byte_is_told_at_its_place(rt: HostRuntime) -> Result<(), Fail> {
-    for (at, byte, fault) in DAMAGES {
+    for &(at, byte, fault) in &DAMAGES {
         assert!(rt; fault_by(rt.alloc(), at, byte)? == Some(fault));
     }
     Ok(())
@@ -127,7 +127,7 @@ fn a_wrong_byte_is_told_at_its_place(rt: HostRuntime) -> Result<(), Fail> {
 // record that does not fit. The record of the device has 29 bytes; committed it has 8 more for a time, 1 or 17 for a
 // nonce, 8 for the evidence, 1 for how the configuration is taken, 7 for what is absent and for lengths, and the
 // configuration.
-const SIZES: [(Option<[u8; 16]>, bool, usize, Option<u64>); 5] = [
+static SIZES: [(Option<[u8; 16]>, bool, usize, Option<u64>); 5] = [
     (None, false, 16_314, None),
     (None, false, 16_315, Some(16_369)),
     (Some([9; 16]), false, 16_298, None),
@@ -164,7 +164,7 @@ fn what_fits_counts_the_moment(rt: HostRuntime) -> Result<(), Fail> {
     let mut disk = MemoryDisk::create(alloc, SIZE)?;
     make_with(alloc, &mut disk, 3)?;
     let held = find(alloc, &mut disk)?;
-    for (nonce, imaged, configuration, size) in SIZES {
+    for &(nonce, imaged, configuration, size) in &SIZES {
         assert!(rt; size_over(alloc, &held, nonce, imaged, configuration)? == size);
     }
     Ok(())

@@ -25,6 +25,7 @@ const SOURCES: &[(&[u8], Parts)] = &[
     (b"dns:a:b.c", Parts::Dns(b"a", b"b.c")),
     (b"dns:a:b:c", Parts::Dns(b"a:b", b"c")),
     (b"dns:::a", Parts::Dns(b":", b"a")),
+    (b"dns:a.:.b", Parts::Dns(b"a.", b".b")),
     (b"server:sim:80", Parts::Server(b"sim", 80)),
     (b"server:[::1]:8443", Parts::Server(b"[::1]", 8443)),
 ];
@@ -78,6 +79,8 @@ const OTHERS: &[&[u8]] = &[
     b"dns:a",
     b"dns:a:",
     b"dns::a",
+    b"dns:a:.",
+    b"dns:a:b.c.",
     b"server:sim",
     b"server:sim:0",
 ];

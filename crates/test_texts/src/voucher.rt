@@ -230,8 +230,8 @@ const WRITTEN: &[u8] =
     \"serial-number\":\"JADA123456789\"}}";
 
 const EARLIEST: &[u8] =
-    b"{\"ietf-voucher:voucher\":{\"assertion\":\"proximity\",\"created-on\":\"-009999-01-02T01:59:59Z\",\
-    \"domain-cert-revocation-checks\":true,\"expires-on\":\"9999-12-30T22:00:00Z\",\"pinned-domain-cert\":\"\",\
+    b"{\"ietf-voucher:voucher\":{\"assertion\":\"proximity\",\"created-on\":\"-009999-01-01T00:00:00Z\",\
+    \"domain-cert-revocation-checks\":true,\"expires-on\":\"9999-12-31T23:59:59Z\",\"pinned-domain-cert\":\"\",\
     \"serial-number\":\"\\u0001\"}}";
 
 // a content, and what is written of it

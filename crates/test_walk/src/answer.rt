@@ -61,7 +61,7 @@ fn visited_files(alloc: Global, word: &[u8], files: Files, fails: u64) -> Result
 
 // A source; the path of the one file, how many zeros and then which bytes it has; the call of the folder that fails;
 // the answer.
-const FILES: [(&[u8], &[u8], usize, &[u8], u64, Told); 10] = [
+static FILES: [(&[u8], &[u8], usize, &[u8], u64, Told); 10] = [
     (USB, CONVEYED, 0, b"abc", 0, Told::Refused(10, "BadDer")),
     (USB, CONVEYED, 0, b"abc", 1, Told::Refused(1, "Lost")),
     (
@@ -147,7 +147,7 @@ fn one_file(alloc: Global, path: &[u8], count: usize, bytes: &[u8]) -> Result<Fi
 
 #[test]
 fn storage_and_messages_come_to_servers_or_are_refused(rt: HostRuntime) -> Result<(), Fail> {
-    for (word, path, count, bytes, fails, told) in FILES {
+    for &(word, path, count, bytes, fails, told) in &FILES {
         let files = one_file(rt.alloc(), path, count, bytes)?;
         let answer = visited_files(rt.alloc(), word, files, fails)?;
         assert!(rt; is_told(&answer, told));
@@ -156,7 +156,7 @@ fn storage_and_messages_come_to_servers_or_are_refused(rt: HostRuntime) -> Resul
 }
 
 // Storage with evidence that authorises onboarding information.
-const ARTIFACTS: [(&[u8], &str); 3] = [
+static ARTIFACTS: [(&[u8], &str); 3] = [
     (CONVEYED, INFORMATION),
     (b"usb/owner-certificate.cms", CERTIFICATES),
     (b"usb/ownership-voucher.cms", VOUCHER),
@@ -164,7 +164,7 @@ const ARTIFACTS: [(&[u8], &str); 3] = [
 
 fn storage(alloc: Global) -> Result<Files, Fail> {
     let mut files = Files::create(alloc);
-    for (path, artifact) in ARTIFACTS {
+    for &(path, artifact) in &ARTIFACTS {
         let bytes = base64(alloc, artifact)?;
         add_file(alloc, &mut files, path, bytes.as_slice())?;
     }
@@ -189,7 +189,7 @@ fn storage_is_an_offer_and_none_of_its_files_a_message(rt: HostRuntime) -> Resul
 }
 
 // What a server replies, the call of the network that fails, and the answer.
-const REPLIES: [(&[u8], u64, Told); 4] = [
+static REPLIES: [(&[u8], u64, Told); 4] = [
     (ABC, 0, Told::Refused(10, "BadDer")),
     (ABC, 1, Told::Refused(1, "Lost")),
     (b"HTTP/1.1 200 OK\r\n", 0, Told::Refused(3, "EndedEarly")),
@@ -214,7 +214,7 @@ fn visited_server(alloc: Global, reply: &[u8], fails: u64) -> Result<Answer, Fai
 
 #[test]
 fn servers_are_refused_for_their_first_fault(rt: HostRuntime) -> Result<(), Fail> {
-    for (reply, fails, told) in REPLIES {
+    for &(reply, fails, told) in &REPLIES {
         let answer = visited_server(rt.alloc(), reply, fails)?;
         assert!(rt; is_told(&answer, told));
     }

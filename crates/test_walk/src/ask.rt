@@ -24,7 +24,7 @@ const NO_MEMBER: &[u8] = b"HTTP/1.1 200 OK\r\nContent-Length: 2\r\n\r\n{}";
 type Given = Result<bool, ServerFault>;
 
 // A reply, whether the connection is closed behind it, the call of the network that fails, and what is given.
-const REPLIES: [(&[u8], bool, u64, Given); 14] = [
+static REPLIES: [(&[u8], bool, u64, Given); 14] = [
     (ABC, true, 0, Ok(true)),
     (ABC, false, 0, Ok(true)),
     (UNTIL_END, true, 0, Ok(true)),
@@ -84,7 +84,7 @@ fn given_by(alloc: Global, reply: Reply<'_>, fails: u64) -> Given {
 
 #[test]
 fn replies_give_evidence_or_their_first_fault(rt: HostRuntime) {
-    for (bytes, closed, fails, wanted) in REPLIES {
+    for &(bytes, closed, fails, wanted) in &REPLIES {
         assert!(rt; given_by(rt.alloc(), Reply { bytes, closed }, fails) == wanted);
     }
 }

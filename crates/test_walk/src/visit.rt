@@ -7,7 +7,7 @@ use sz_io::{Files, MemoryFolder};
 use sz_visit::{FileFault, read_message, read_storage};
 
 // The files of storage, those in the device's own folder first.
-const PATHS: [&[u8]; 6] = [
+static PATHS: [&[u8]; 6] = [
     b"usb/A1/conveyed-information.cms",
     b"usb/A1/owner-certificate.cms",
     b"usb/A1/ownership-voucher.cms",
@@ -38,7 +38,7 @@ type Sizes = Result<[usize; 3], FileFault>;
 const OVER: Sizes = Err(FileFault::TooLarge { limit: 1_048_576 });
 
 // The sizes of the files, the call of the folder that fails, and what storage gives.
-const STORAGES: [([usize; 6], u64, Sizes); 12] = [
+static STORAGES: [([usize; 6], u64, Sizes); 12] = [
     ([1, 2, 3, 4, 5, 6], 0, Ok([1, 2, 3])),
     ([1, 0, 3, 4, 5, 6], 0, Ok([1, 0, 3])),
     ([0, 2, 3, 4, 0, 0], 0, Ok([4, 0, 0])),
@@ -73,13 +73,13 @@ fn sizes_of(evidence: &Evidence) -> [usize; 3] {
 
 #[test]
 fn the_folder_named_as_the_serial_number_comes_first(rt: HostRuntime) {
-    for (sizes, fails, given) in STORAGES {
+    for &(sizes, fails, given) in &STORAGES {
         assert!(rt; storage(rt.alloc(), sizes, fails) == given);
     }
 }
 
 // How large the message of a file is, and what is read of it.
-const MESSAGES: [(usize, Result<usize, FileFault>); 4] = [
+static MESSAGES: [(usize, Result<usize, FileFault>); 4] = [
     (0, Err(FileFault::Absent)),
     (1, Ok(1)),
     (MOST_MESSAGE, Ok(MOST_MESSAGE)),
@@ -94,7 +94,7 @@ fn message(alloc: Global, size: usize) -> Result<usize, FileFault> {
 
 #[test]
 fn messages_have_at_most_so_many_bytes(rt: HostRuntime) {
-    for (size, read) in MESSAGES {
+    for &(size, read) in &MESSAGES {
         assert!(rt; message(rt.alloc(), size) == read);
     }
 }

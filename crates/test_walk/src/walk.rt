@@ -89,7 +89,7 @@ fn network(alloc: Global, replies: &[Reply]) -> Result<ScriptNet, Fail> {
 const DHCP4: &[u8] = &[0; 236];
 
 // The path of a file, and two parts of its bytes.
-const FILES: [(&[u8], &[u8], &[u8]); 4] = [
+static FILES: [(&[u8], &[u8], &[u8]); 4] = [
     // the cookie, two URIs in option 143, and the end (RFC 8572 section 8.1)
     (
         b"v4",
@@ -113,7 +113,7 @@ const FILES: [(&[u8], &[u8], &[u8]); 4] = [
 
 fn messages(alloc: Global) -> Result<MemoryFolder, Fail> {
     let mut files = Files::create(alloc);
-    for (path, front, back) in FILES {
+    for &(path, front, back) in &FILES {
         let bytes = joined(alloc, &[front, back])?;
         add_file(alloc, &mut files, path, bytes.as_slice())?;
     }
@@ -213,7 +213,7 @@ fn are_lines(visits: &[Visit], lines: &[Line]) -> bool {
             .all(|(visit, line)| is_line(visit, line))
 }
 
-const WALKS: [Row; 6] = [
+static WALKS: [Row; 6] = [
     // a refusal of each kind, and behind it the next source
     Row {
         sources: &[

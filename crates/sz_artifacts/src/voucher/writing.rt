@@ -104,7 +104,6 @@ fn as_str_where(text: &Option<String>) -> Option<&str>
 }
 
 // the date and the time of day at the second, in UTC
-#[tactic(auto, using(crate::proofs::Dates::dated_instant))]
 fn date_text(alloc: Global, seconds: Seconds) -> Result<String, OutOfMemory>
     requires { IsInstant seconds }
     ensures { IfOk result (λ text. IsDateText seconds (string_bytes text)) }

@@ -7,7 +7,7 @@ use sz_base::OutOfMemory;
 use sz_x509::{CertFault, CertKind, Crl};
 
 // The parts of TBSCertList one after another, the algorithm, the signature, and what stands behind the list.
-const PARTS: [&[u8]; 10] = [
+static PARTS: [&[u8]; 10] = [
     b"\x02\x01\x01",
     b"\x30\x0D\x06\x0B\x2A\x86\x48\x86\xF7\x0D\x01\x09\x10\x03\x11",
     b"\x30\x0C\x31\x0A\x30\x08\x06\x03\x55\x04\x03\x0C\x01R",
@@ -36,7 +36,7 @@ fn by_hand(bytes: &[u8]) -> Crl<'_> {
 }
 
 // Serial numbers, and whether the list has them.
-const SERIALS: [(&[u8], bool); 4] = [
+static SERIALS: [(&[u8], bool); 4] = [
     (b"\x07", true),
     (b"\x00\x80", true),
     (b"\x80", false),
@@ -55,7 +55,7 @@ fn one_spelled_by_hand(rt: HostRuntime) -> Result<(), Fail> {
 }
 
 // A part in place of the one there, whether nextUpdate is there, and whether serial number 7 is listed.
-const OTHER_PARTS: [(usize, &[u8], bool, bool); 5] = [
+static OTHER_PARTS: [(usize, &[u8], bool, bool); 5] = [
     (0, b"", true, true),
     (4, b"", false, true),
     (4, b"\x18\x0F20500101000000Z", true, true),
@@ -88,7 +88,7 @@ fn parts_of_other_forms(rt: HostRuntime) -> Result<(), Fail> {
 
 // A part in place of the one there, and the fault. The first part is at place 6, or before it where a short part makes
 // lengths shorter; nextUpdate is at 53, the first of the list's extensions at 132, the signature at 159.
-const FAULTS: [(usize, &[u8], CertKind, usize); 14] = [
+static FAULTS: [(usize, &[u8], CertKind, usize); 14] = [
     (0, b"\x02\x01\x00", CertKind::Version, 6),
     (0, b"\x02\x02\x00\x01", CertKind::Der, 6),
     (0, b"\xA0\x03\x02\x01\x01", CertKind::Algorithm, 6),

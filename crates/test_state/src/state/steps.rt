@@ -245,7 +245,7 @@ fn cut_at_gate(
 
 // Whether the record that is replaced has version 1, the choice of the cut, how far the device has come then, and
 // where the payload of its record begins with which version.
-const GATES: [(bool, u64, Stage, u64, u8); 4] = [
+static GATES: [(bool, u64, Stage, u64, u8); 4] = [
     (false, 0, Stage::Factory, 16, 2),
     (false, 1, Stage::Onboarded, 16_400, 2),
     (true, 0, Stage::Installed, 16, 1),
@@ -255,7 +255,7 @@ const GATES: [(bool, u64, Stage, u64, u8); 4] = [
 #[test]
 fn the_gate_decides_which_record_is_read(rt: HostRuntime) -> Result<(), Fail> {
     let alloc = rt.alloc();
-    for (older, choice, stage, payload, version) in GATES {
+    for &(older, choice, stage, payload, version) in &GATES {
         let disk = match older {
             true => older_disk(alloc)?,
             false => disk_after(&rt, alloc, 1)?,

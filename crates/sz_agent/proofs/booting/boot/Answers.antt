@@ -22,7 +22,7 @@ pub returns-then-is_some-clause-boot_ok : goal.returns-then-is_some-clause-boot_
 returns-then-is_some-clause-boot_ok g c =
     committed_ok g.D.Disk.seen g.met.D.Disk.lawful c.payloads_have_one_reading.ensures.one_device c.args.disk.now
     c.attach.new.disk c.args.sources (g.F.Folder.files c.args.folder.now) (g.N.Net.traffic c.args.net.now)
-    c.unasked-then-is_some.result c.in-Ok.held (c.in-Ok.ensures.synced refl) c.in-Ok.ensures.found c.device_widths.ensures
+    c.unasked-then-is_some.result c.in-Ok.held (c.in-Ok.ensures.synced refl) c.in-Ok.ensures.found
     (some_not_none c.in-Ok.held.device.onboarded (sym c.is_some.ensures ∙ c.if-is_some.true))
     c.unasked-then-is_some.ensures.outcome c.unasked-then-is_some.ensures.visits
 
@@ -41,8 +41,7 @@ returns-clause-boot_ok g c =
     (g.F.Folder.files c.args.folder.now) (g.N.Net.traffic c.args.net.now) (g.N.Net.traffic c.search-choice.new.net)
     c.search-choice.result.choice c.search-choice.result.visits c.take.result (c.in-Ok.ensures.synced refl)
     c.in-Ok.ensures.found (none_of c.in-Ok.held.device.onboarded (sym c.is_some.ensures ∙ c.if-is_some.false))
-    c.device_widths.ensures c.moment_widths.ensures c.choice_widths.ensures c.search-choice.ensures.spare
-    c.search-choice.ensures.can c.search-choice.ensures.ends c.take.ensures.becomes c.take.ensures.stands
+    c.search-choice.ensures.spare c.search-choice.ensures.can c.search-choice.ensures.ends c.take.ensures.becomes c.take.ensures.stands
     c.take.ensures.untouched
 
 pub returns-clause-found : goal.returns-clause-found

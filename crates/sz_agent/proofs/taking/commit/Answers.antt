@@ -2,13 +2,19 @@ use Rattle.std.proofs.Common.{Bool, sym, subst}
 use Rattle.sz_spec.specs.Cause.{HasCause}
 use Rattle.sz_state.specs.Step.{once_onboarded}
 use Rattle.sz_state.specs.declared.held.Held.{Held}
+use Rattle.sz_state.proofs.Changing.{either-stands}
 use Rattle.sz_agent.proofs.Changing.{blamed_alike, commit_unmade, stands_unchanged, untouched_early}
 use Rattle.sz_agent.proofs.taking.commit.Goals as goal
 
 pub returns-in-Ok-clause-stands : goal.returns-in-Ok-clause-stands
 returns-in-Ok-clause-stands g c = λ stands.
     let through = c.in-Ok.ensures.stands stands in
-    record { any_moment = through.any_moment; changed = λ yes. through.ok }
+    record {
+      any_moment = either-stands (g.D.Disk.seen c.args.disk.now) (g.D.Disk.seen c.onboard.new.disk) c.args.held.device
+          (once_onboarded c.args.held.device c.args.offer.onboarding c.args.when c.args.offer.evidence)
+          through.any_moment;
+      changed = λ yes image left. (through.ok image left).stands;
+    }
 
 pub returns-in-Err-clause-becomes : goal.returns-in-Err-clause-becomes
 returns-in-Err-clause-becomes g c =

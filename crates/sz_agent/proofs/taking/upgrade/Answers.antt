@@ -2,13 +2,19 @@ use Rattle.std.proofs.Common.{Bool, sym, subst}
 use Rattle.sz_spec.specs.Cause.{HasCause}
 use Rattle.sz_state.specs.Step.{once_installed}
 use Rattle.sz_state.specs.declared.held.Held.{Held}
+use Rattle.sz_state.proofs.Changing.{either-stands}
 use Rattle.sz_agent.proofs.Changing.{blamed_alike, install_unmade, stands_unchanged, untouched_early}
 use Rattle.sz_agent.proofs.taking.upgrade.Goals as goal
 
 pub returns-in-Ok-clause-stands : goal.returns-in-Ok-clause-stands
 returns-in-Ok-clause-stands g c = λ stands.
     let through = c.in-Ok.ensures.stands stands c.requires.can.in_area.in_area in
-    record { any_moment = through.any_moment; changed = λ yes. through.ok }
+    record {
+      any_moment = either-stands (g.D.Disk.seen c.args.disk.now) (g.D.Disk.seen c.install.new.disk) c.args.held.device
+          (once_installed c.args.held.device c.args.offer.onboarding c.args.staged c.args.when c.args.offer.evidence)
+          through.any_moment;
+      changed = λ yes image left. (through.ok image left).stands;
+    }
 
 pub returns-clause-becomes : goal.returns-clause-becomes
 returns-clause-becomes g c =

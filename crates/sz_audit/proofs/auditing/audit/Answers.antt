@@ -12,6 +12,5 @@ returns-clause-found g c =
       c.in_ok-held.held,
       held-elsewhere before now c.in_ok-held.held 0 (g.met.D.Disk.lawful c.image_found.new.disk)
           c.in_ok-held.ensures.found torn,
-      c.device_widths.ensures,
       record { image = c.in_ok-image.ensures.found; configuration = c.in_ok-configuration.ensures.found },
     )

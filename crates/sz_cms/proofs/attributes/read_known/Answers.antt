@@ -1,8 +1,8 @@
 use Rattle.std.proofs.Common.{[], ◌∷◌, ◌++◌}
+use Rattle.sz_der.specs.Spots.{spot_of}
+use Rattle.sz_der.proofs.Steps.{at_end_is, exit, not_at_end}
 use Rattle.sz_cms.specs.MessageFault.{attribute_fault}
-use Rattle.sz_cms.specs.Parts.{spot_of}
 use Rattle.sz_cms.proofs.Walk.{walks_end, walks_fault, walks_start, walks_step}
-use Rattle.sz_cms.proofs.Steps.{at_end_is, exit, not_at_end}
 use Rattle.sz_cms.proofs.Readings.{shorter}
 use Rattle.sz_cms.proofs.attributes.read_known.Goals as goal
 

@@ -1,7 +1,7 @@
 use Rattle.std.proofs.Common.{List, length}
+use Rattle.sz_der.specs.Spots.{Spot, spot_of}
 use Rattle.sz_cms.specs.Known.{AreKnown}
 use Rattle.sz_cms.specs.MessageFault.{attribute_fault}
-use Rattle.sz_cms.specs.Parts.{Spot, spot_of}
 use Rattle.sz_cms.proofs.Walk.{Walks}
 use Rattle.sz_cms.proofs.attributes.read_known.Given as goal
 

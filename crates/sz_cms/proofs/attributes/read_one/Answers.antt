@@ -1,6 +1,6 @@
 use Rattle.std.proofs.Common.{refl}
+use Rattle.sz_der.proofs.Steps.{at_end_is, exit, not_at_end}
 use Rattle.sz_cms.specs.MessageFault.{one_fault}
-use Rattle.sz_cms.proofs.Steps.{at_end_is, exit, not_at_end}
 use Rattle.sz_cms.proofs.Readings.{place_is}
 use Rattle.sz_cms.proofs.attributes.read_one.Goals as goal
 

@@ -1,6 +1,6 @@
 use Rattle.std.proofs.Common.{◌≡◌, refl, sym, ap, ◌∙◌, Some}
+use Rattle.sz_der.specs.Spots.{after, content_at, inside, spot_of}
 use Rattle.sz_cms.specs.MessageFault.{attribute_fault, Fault, type_at, values_spot}
-use Rattle.sz_cms.specs.Parts.{after, content_at, inside, spot_of}
 use Rattle.sz_cms.proofs.Readings.{exit_all, known_more}
 use Rattle.sz_cms.proofs.attributes.take_attribute.Goals as goal
 
@@ -27,7 +27,7 @@ returns-then-has-clause-fault c =
       ← c.has.ensures earlier known,
       c.if-has.true,
     )
-    (ap (λ (x : Fault). Some x) (sym (c.fault_of.ensures (spot_of c.in_ok-parts.parts) c.in_ok-identifier.ensures.item)))
+    (ap (λ (x : Fault). Some x) (sym (c.part_fault.ensures (spot_of c.in_ok-parts.parts) c.in_ok-identifier.ensures.item)))
 
 pub returns-in_err-values-clause-fault : goal.returns-in_err-values-clause-fault
 unfolding attribute_fault

@@ -1,10 +1,10 @@
 use Rattle.std.proofs.Common.{refl, sym, ◌∙◌}
+use Rattle.sz_der.specs.Spots.{spot_of}
 use Rattle.sz_der.specs.declared.tag.TheConstants.{CONTEXT_CONSTRUCTED}
+use Rattle.sz_der.proofs.Optional.{after_next, after_other}
+use Rattle.sz_der.proofs.Steps.{exit}
 use Rattle.sz_cms.specs.MessageFault.{attributes_fault}
-use Rattle.sz_cms.specs.Parts.{spot_of}
 use Rattle.sz_cms.specs.Places.{attributes_at}
-use Rattle.sz_cms.proofs.Optional.{after_next, after_other}
-use Rattle.sz_cms.proofs.Steps.{exit}
 use Rattle.sz_cms.proofs.attributes.take_attributes.Goals as goal
 
 pub returns-then-not-is_next-clause-ok : goal.returns-then-not-is_next-clause-ok

@@ -1,6 +1,6 @@
 use Rattle.std.proofs.Common.{List, length}
+use Rattle.sz_der.specs.Spots.{Spot, spot_of}
 use Rattle.sz_cms.specs.MessageFault.{algorithm_fault}
-use Rattle.sz_cms.specs.Parts.{Spot, spot_of}
 use Rattle.sz_cms.proofs.Walk.{Walks}
 use Rattle.sz_cms.proofs.reading.read_algorithms.Given as goal
 

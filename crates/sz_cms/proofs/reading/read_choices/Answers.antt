@@ -1,9 +1,9 @@
 use Rattle.std.proofs.Common.{◌≡◌, refl, sym, ap, ◌∙◌, List, [], ◌∷◌, ◌++◌, None, Some}
+use Rattle.sz_der.specs.Spots.{Spot, spot_of, tag_at}
 use Rattle.sz_der.specs.declared.tag.TheConstants.{SEQUENCE}
+use Rattle.sz_der.proofs.Steps.{at_end_is, exit, not_at_end}
 use Rattle.sz_cms.specs.MessageFault.{choice_fault, Fault, sequences_at}
-use Rattle.sz_cms.specs.Parts.{Spot, spot_of, tag_at}
 use Rattle.sz_cms.proofs.Walk.{walks_end, walks_fault, walks_start, walks_step}
-use Rattle.sz_cms.proofs.Steps.{at_end_is, exit, not_at_end}
 use Rattle.sz_cms.proofs.Readings.{choice_fits, choice_other, choice_over, kept_other, no_room, pushed_kept, room_left, shorter}
 use Rattle.sz_cms.proofs.reading.read_choices.Goals as goal
 
@@ -70,7 +70,7 @@ returns-then-is_full-clause-fault g c =
     let full = no_room g.row.MOST c.loop-each.kept inv.0 inv.2 c.is_full.result c.is_full.ensures.value c.if-is_full.true in
     let is = sym c.in_ok-item.ensures.item.tag ∙ c.if-item-eq-SEQUENCE.true in
     walks_fault (choice_fault g.row.MOST) start inv.0 now _ inv.1 more
-    (choice_over g.row.MOST inv.0 now c.in_ok-item.ensures.ok is full ∙ ap (λ (x : Fault). Some x) (sym (c.fault_of.ensures now c.in_ok-item.ensures.item)))
+    (choice_over g.row.MOST inv.0 now c.in_ok-item.ensures.ok is full ∙ ap (λ (x : Fault). Some x) (sym (c.part_fault.ensures now c.in_ok-item.ensures.item)))
 
 pub returns-clause-ok : goal.returns-clause-ok
 returns-clause-ok g c =

@@ -1,7 +1,7 @@
-use Rattle.std.proofs.Common.{◌≡◌, List, length}
 use Rattle.std.specs.Prelude.{map}
+use Rattle.std.proofs.Common.{◌≡◌, List, length}
+use Rattle.sz_der.specs.Spots.{Spot, spot_of}
 use Rattle.sz_cms.specs.MessageFault.{choice_fault, sequences_at}
-use Rattle.sz_cms.specs.Parts.{Spot, spot_of}
 use Rattle.sz_cms.proofs.Walk.{Walks}
 use Rattle.sz_cms.proofs.reading.read_choices.Given as goal
 

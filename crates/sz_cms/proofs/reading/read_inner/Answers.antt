@@ -1,11 +1,11 @@
+use Rattle.std.specs.Prelude.{bytes_eq}
 use Rattle.std.proofs.Common.{refl, sym, ap, ◌∙◌, List, ℕ}
+use Rattle.sz_der.proofs.Steps.{exit}
 use Rattle.sz_cms.specs.Message.{SignedData}
 use Rattle.sz_cms.specs.MessageFault.{inner_fault}
 use Rattle.sz_cms.specs.Places.{inner_at}
-use Rattle.sz_cms.proofs.Steps.{exit}
 use Rattle.sz_cms.proofs.Readings.{kind_identifier, kind_named}
 use Rattle.sz_cms.proofs.reading.read_inner.Goals as goal
-use Rattle.std.specs.Prelude.{bytes_eq}
 
 pub returns-in_err-signed-clause-fault : goal.returns-in_err-signed-clause-fault
 unfolding inner_fault

@@ -1,7 +1,7 @@
 use Rattle.std.proofs.Common.{refl}
+use Rattle.sz_der.proofs.Steps.{exit}
 use Rattle.sz_cms.specs.MessageFault.{info_fault}
 use Rattle.sz_cms.specs.Places.{info_at}
-use Rattle.sz_cms.proofs.Steps.{exit}
 use Rattle.sz_cms.proofs.Readings.{front_is}
 use Rattle.sz_cms.proofs.reading.read_message.Goals as goal
 

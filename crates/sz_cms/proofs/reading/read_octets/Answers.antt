@@ -1,6 +1,6 @@
 use Rattle.std.proofs.Common.{refl}
+use Rattle.sz_der.proofs.Steps.{exit}
 use Rattle.sz_cms.specs.MessageFault.{octets_fault}
-use Rattle.sz_cms.proofs.Steps.{exit}
 use Rattle.sz_cms.proofs.reading.read_octets.Goals as goal
 
 pub returns-in_err-octets-clause-fault : goal.returns-in_err-octets-clause-fault

@@ -1,6 +1,6 @@
 use Rattle.std.proofs.Common.{refl}
+use Rattle.sz_der.proofs.Steps.{exit}
 use Rattle.sz_cms.specs.MessageFault.{signed_fault}
-use Rattle.sz_cms.proofs.Steps.{exit}
 use Rattle.sz_cms.proofs.reading.read_signed.Goals as goal
 
 pub returns-in_err-data-clause-fault : goal.returns-in_err-data-clause-fault

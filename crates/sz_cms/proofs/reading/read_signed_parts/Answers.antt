@@ -1,9 +1,9 @@
 use Rattle.std.proofs.Common.{refl, ap, ◌∙◌}
+use Rattle.sz_der.specs.Spots.{after, after_optional, content_at, inside, Spot}
 use Rattle.sz_der.specs.declared.tag.TheConstants.{CONTEXT_CONSTRUCTED}
+use Rattle.sz_der.proofs.Steps.{exit}
 use Rattle.sz_cms.specs.MessageFault.{crls_tag, signed_parts_fault}
-use Rattle.sz_cms.specs.Parts.{after, after_optional, content_at, inside, Spot}
 use Rattle.sz_cms.specs.Places.{choices_at, content_field_at, signed_from, signers_at}
-use Rattle.sz_cms.proofs.Steps.{exit}
 use Rattle.sz_cms.proofs.Readings.{kind_identifier, kind_named, same_signed}
 use Rattle.sz_cms.proofs.reading.read_signed_parts.Goals as goal
 

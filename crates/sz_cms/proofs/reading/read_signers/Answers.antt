@@ -1,10 +1,10 @@
 use Rattle.std.proofs.Common.{◌≡◌, refl, sym, ap, ◌∙◌, List, [], ◌∷◌, ◌++◌, None, Some, map}
+use Rattle.sz_der.specs.Spots.{Spot, spot_of}
+use Rattle.sz_der.proofs.Steps.{at_end_is, exit, not_at_end}
 use Rattle.sz_cms.specs.MessageFault.{Fault, signer_fault}
-use Rattle.sz_cms.specs.Parts.{Spot, spot_of}
 use Rattle.sz_cms.specs.Places.{signer_at, signer_from}
 use Rattle.sz_cms.specs.View.{signer_of}
 use Rattle.sz_cms.proofs.Walk.{walks_end, walks_fault, walks_start, walks_step}
-use Rattle.sz_cms.proofs.Steps.{at_end_is, exit, not_at_end}
 use Rattle.sz_cms.proofs.Readings.{few_signers, many_signers, pushed, shorter}
 use Rattle.sz_cms.proofs.reading.read_signers.Goals as goal
 
@@ -55,7 +55,7 @@ returns-then-is_full-clause-fault c =
     let inv = c.loop-each.invariant in
     let many = many_signers c.loop-each.signers inv.0 inv.2 c.is_full.result c.is_full.ensures.value c.if-is_full.true in
     walks_fault signer_fault start inv.0 now _ inv.1 more
-    (rw (c.in_ok-item.ensures.ok, many) (ap (λ (x : Fault). Some x) (sym (c.fault_of.ensures now c.in_ok-item.ensures.item))))
+    (rw (c.in_ok-item.ensures.ok, many) (ap (λ (x : Fault). Some x) (sym (c.part_fault.ensures now c.in_ok-item.ensures.item))))
 
 pub returns-in_err-signer-clause-fault : goal.returns-in_err-signer-clause-fault
 unfolding signer_fault

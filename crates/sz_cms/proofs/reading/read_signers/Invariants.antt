@@ -1,9 +1,9 @@
-use Rattle.std.proofs.Common.{◌≡◌, List, length}
 use Rattle.std.specs.Prelude.{map}
+use Rattle.std.proofs.Common.{◌≡◌, List, length}
+use Rattle.sz_der.specs.Spots.{Spot, spot_of}
 use Rattle.sz_cms.specs.MessageFault.{signer_fault}
 use Rattle.sz_cms.specs.Places.{signer_at}
 use Rattle.sz_cms.specs.View.{signer_of}
-use Rattle.sz_cms.specs.Parts.{Spot, spot_of}
 use Rattle.sz_cms.proofs.Walk.{Walks}
 use Rattle.sz_cms.proofs.reading.read_signers.Given as goal
 

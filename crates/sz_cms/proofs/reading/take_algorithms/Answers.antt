@@ -1,7 +1,7 @@
 use Rattle.std.proofs.Common.{refl}
-use Rattle.sz_cms.specs.MessageFault.{algorithms_fault}
 use Rattle.std.proofs.lemmas.Result.{MatchResult-weaker}
-use Rattle.sz_cms.proofs.Steps.{exit}
+use Rattle.sz_der.proofs.Steps.{exit}
+use Rattle.sz_cms.specs.MessageFault.{algorithms_fault}
 use Rattle.sz_cms.proofs.reading.take_algorithms.Goals as goal
 
 pub returns-in_err-each-clause-fault : goal.returns-in_err-each-clause-fault

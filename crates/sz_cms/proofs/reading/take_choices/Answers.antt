@@ -1,11 +1,11 @@
 use Rattle.std.proofs.Common.{refl, sym, ◌∙◌}
-use Rattle.sz_cms.specs.MessageFault.{choices_fault}
-use Rattle.sz_cms.specs.Parts.{spot_of}
-use Rattle.sz_cms.specs.Places.{choices_at}
-use Rattle.sz_cms.proofs.Optional.{after_next, after_other}
 use Rattle.std.proofs.lemmas.Result.{MatchResult-weaker}
+use Rattle.sz_der.specs.Spots.{spot_of}
+use Rattle.sz_der.proofs.Optional.{after_next, after_other}
+use Rattle.sz_der.proofs.Steps.{exit}
+use Rattle.sz_cms.specs.MessageFault.{choices_fault}
+use Rattle.sz_cms.specs.Places.{choices_at}
 use Rattle.sz_cms.proofs.Readings.{on_ok}
-use Rattle.sz_cms.proofs.Steps.{exit}
 use Rattle.sz_cms.proofs.reading.take_choices.Goals as goal
 
 pub returns-then-not-is_next-clause-ok : goal.returns-then-not-is_next-clause-ok

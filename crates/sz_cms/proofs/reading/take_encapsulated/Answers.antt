@@ -1,8 +1,8 @@
 use Rattle.std.proofs.Common.{refl, ap, ◌∙◌}
+use Rattle.sz_der.specs.Spots.{after, content_at}
+use Rattle.sz_der.proofs.Steps.{exit}
 use Rattle.sz_cms.specs.MessageFault.{content_fault}
-use Rattle.sz_cms.specs.Parts.{after, content_at}
 use Rattle.sz_cms.specs.Places.{content_field_at}
-use Rattle.sz_cms.proofs.Steps.{exit}
 use Rattle.sz_cms.proofs.reading.take_encapsulated.Goals as goal
 
 pub returns-in_err-parts-clause-fault : goal.returns-in_err-parts-clause-fault

@@ -1,7 +1,7 @@
 use Rattle.std.proofs.Common.{refl}
-use Rattle.sz_cms.specs.MessageFault.{signers_fault}
 use Rattle.std.proofs.lemmas.Result.{MatchResult-weaker}
-use Rattle.sz_cms.proofs.Steps.{exit}
+use Rattle.sz_der.proofs.Steps.{exit}
+use Rattle.sz_cms.specs.MessageFault.{signers_fault}
 use Rattle.sz_cms.specs.Places.{signers_at}
 use Rattle.sz_cms.proofs.reading.take_signers.Goals as goal
 

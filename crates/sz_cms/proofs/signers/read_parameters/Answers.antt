@@ -1,7 +1,7 @@
 use Rattle.std.proofs.Common.{refl}
+use Rattle.sz_der.proofs.Steps.{at_end_is, exit, not_at_end}
 use Rattle.sz_cms.specs.MessageFault.{parameters_fault}
 use Rattle.sz_cms.specs.Places.{parameters_at}
-use Rattle.sz_cms.proofs.Steps.{at_end_is, exit, not_at_end}
 use Rattle.sz_cms.proofs.signers.read_parameters.Goals as goal
 
 pub returns-then-is_at_end-clause-ok : goal.returns-then-is_at_end-clause-ok

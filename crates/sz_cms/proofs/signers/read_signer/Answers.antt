@@ -1,9 +1,9 @@
 use Rattle.std.proofs.Common.{refl, ap, ◌∙◌}
+use Rattle.sz_der.specs.Spots.{after, after_optional, content_at}
 use Rattle.sz_der.specs.declared.tag.TheConstants.{CONTEXT_CONSTRUCTED}
+use Rattle.sz_der.proofs.Steps.{exit}
 use Rattle.sz_cms.specs.MessageFault.{signer_parts_fault}
-use Rattle.sz_cms.specs.Parts.{after, after_optional, content_at}
 use Rattle.sz_cms.specs.Places.{algorithm_at, attributes_at, identifier_at, signer_from}
-use Rattle.sz_cms.proofs.Steps.{exit}
 use Rattle.sz_cms.proofs.Readings.{by_hss_is, same_signer}
 use Rattle.sz_cms.proofs.signers.read_signer.Goals as goal
 

@@ -1,7 +1,7 @@
 use Rattle.std.proofs.Common.{refl}
+use Rattle.sz_der.proofs.Steps.{exit}
 use Rattle.sz_cms.specs.MessageFault.{algorithm_fault}
 use Rattle.sz_cms.specs.Places.{algorithm_at}
-use Rattle.sz_cms.proofs.Steps.{exit}
 use Rattle.sz_cms.proofs.signers.take_algorithm.Goals as goal
 
 pub returns-in_err-parts-clause-fault : goal.returns-in_err-parts-clause-fault

@@ -1,8 +1,8 @@
 use Rattle.std.proofs.Common.{refl, sym, ap, ◌∙◌}
+use Rattle.sz_der.proofs.Steps.{exit}
 use Rattle.sz_cms.specs.Message.{KeyId}
 use Rattle.sz_cms.specs.MessageFault.{identifier_fault}
 use Rattle.sz_cms.specs.Places.{identifier_at}
-use Rattle.sz_cms.proofs.Steps.{exit}
 use Rattle.sz_cms.proofs.signers.take_identifier.Goals as goal
 
 pub returns-then-not-is_next-clause-ok : goal.returns-then-not-is_next-clause-ok

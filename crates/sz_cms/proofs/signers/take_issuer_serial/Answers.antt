@@ -1,7 +1,7 @@
 use Rattle.std.proofs.Common.{refl}
+use Rattle.sz_der.proofs.Steps.{exit}
 use Rattle.sz_cms.specs.MessageFault.{issuer_serial_fault}
 use Rattle.sz_cms.specs.Places.{issuer_serial_at}
-use Rattle.sz_cms.proofs.Steps.{exit}
 use Rattle.sz_cms.proofs.signers.take_issuer_serial.Goals as goal
 
 pub returns-in_err-parts-clause-fault : goal.returns-in_err-parts-clause-fault

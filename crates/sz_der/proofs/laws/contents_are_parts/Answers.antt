@@ -1,4 +1,4 @@
-use Rattle.sz_der.proofs.Parts.{faults_of_part, items_of_part, front_of_part, rest_of_part, inner_of_part}
+use Rattle.sz_der.proofs.Nested.{faults_of_part, items_of_part, front_of_part, rest_of_part, inner_of_part}
 use Rattle.sz_der.proofs.laws.contents_are_parts.Goals as goal
 
 pub returns-clause-faults : goal.returns-clause-faults

@@ -23,12 +23,12 @@ returns-in-Ok g c =
     let found = c.in-Ok.ensures.found in
     let held = found.0 in
     let same = c.in-Ok.ensures.reads refl in
-    let audits = subst (λ (reads : Option (List ℕ)). Audits reads held.device c.in-Ok.audit) same found.3 in
+    let audits = subst (λ (reads : Option (List ℕ)). Audits reads held.device c.in-Ok.audit) same found.2 in
     record {
       may = (
         c.in_ok-check_size.ensures.ok,
         of_device c.payloads_have_one_reading.ensures.one_device old new held (λ device. Audits old.reads device c.in-Ok.audit)
-            (g.met.D.Disk.lawful c.audit.new.disk) found.1 found.2 same audits,
+            (g.met.D.Disk.lawful c.audit.new.disk) found.1 same audits,
       );
       still = c.in-Ok.ensures.still;
       reads = λ stood. same;

@@ -37,7 +37,7 @@ returns-in-Ok-device_lines g c =
       may = (
         c.in_ok-check_size.ensures.ok,
         of_device c.payloads_have_one_reading.ensures.one_device old new held (λ device. Shows old.reads device c.in-Ok-device_lines.lines)
-            (g.met.D.Disk.lawful c.attach.new.disk) c.in-Ok.ensures.found c.device_widths.ensures same
+            (g.met.D.Disk.lawful c.attach.new.disk) c.in-Ok.ensures.found same
             c.in-Ok-device_lines.ensures,
       );
       still = c.in-Ok.ensures.still;

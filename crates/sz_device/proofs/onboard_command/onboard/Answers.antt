@@ -4,7 +4,7 @@ use Rattle.sz_device.proofs.Naming.{few_sources}
 use Rattle.sz_device.proofs.onboard_command.onboard.Goals as goal
 
 pub boot_device-requires : goal.boot_device-requires
-boot_device-requires g c = few_sources _ c.in-Ok.sources c.in-Ok.ensures.named
+boot_device-requires g c = few_sources _ _ c.in-Ok.sources c.in-Ok.ensures.named
 
 pub returns-in-Err-Form : goal.returns-in-Err-Form
 returns-in-Err-Form g c = inl (record {

@@ -5,8 +5,8 @@ use Rattle.sz_cms.specs.View.{signed_of}
 use Rattle.sz_artifacts.specs.Conveyed.{conveyed_fault, ConveyedOf}
 use Rattle.sz_artifacts.specs.declared.conveyed.Conveyed.{Conveyed}
 use Rattle.sz_artifacts.specs.declared.conveyed.Conveyed.TheVariants as conveyed
-use Rattle.sz_evidence.specs.Judgement.{First, IsRefusedFor, owner_rules, plain_rules, voucher_rules}
-use Rattle.sz_evidence.specs.View.{IsReason, json_refusal, owner_of, RefusesInformation}
+use Rattle.sz_evidence.specs.Judgement.{First, IsRefusedFor, owner_rules, plain_rules, RefusesInformation, voucher_rules}
+use Rattle.sz_evidence.specs.View.{IsReason, json_refusal, owner_of}
 use Rattle.sz_evidence.proofs.Steps.{authenticated, exit, is_plain, is_signed_data, member_by, plain_kind, reason_by, refused_information, refused_owner, refused_plain, refused_unsigned, refused_voucher, signed_kind}
 use Rattle.sz_evidence.proofs.judgement.judge.Goals as goal
 

@@ -2,8 +2,7 @@ use Rattle.std.proofs.Common.{◌≡◌, sym, ◌∙◌}
 use Rattle.sz_cms.specs.Message.{SignedData}
 use Rattle.sz_cms.specs.View.{info_of, signed_of}
 use Rattle.sz_cms.specs.declared.identifier.TheConstants.{VOUCHER}
-use Rattle.sz_evidence.specs.Judgement.{First}
-use Rattle.sz_evidence.specs.View.{message_rules}
+use Rattle.sz_evidence.specs.Judgement.{First, message_rules}
 use Rattle.sz_evidence.specs.declared.reason.Artifact.TheVariants as artifact
 use Rattle.sz_evidence.specs.declared.reason.Reason.TheVariants as reason
 use Rattle.sz_evidence.proofs.Steps.{apart, first_other_voucher, is_signed_data, plain_no_voucher, read_there, reason_is}

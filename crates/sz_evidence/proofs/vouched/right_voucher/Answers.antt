@@ -1,7 +1,7 @@
 use Rattle.sz_cms.specs.View.{signed_of}
 use Rattle.sz_artifacts.specs.Voucher.{voucher_fault}
-use Rattle.sz_evidence.specs.Judgement.{First, voucher_rules}
-use Rattle.sz_evidence.specs.View.{IsReason, IsUnfit, json_refusal, PinsNoCertificate, RefusesVoucher}
+use Rattle.sz_evidence.specs.Judgement.{First, IsUnfit, PinsNoCertificate, RefusesVoucher, voucher_rules}
+use Rattle.sz_evidence.specs.View.{IsReason, json_refusal}
 use Rattle.sz_evidence.proofs.Steps.{exit, member_by, reason_by, voucher_at_fault, voucher_ok, voucher_pins_none, voucher_unfit, voucher_unsigned}
 use Rattle.sz_evidence.proofs.vouched.right_voucher.Goals as goal
 

@@ -1,12 +1,10 @@
 use Rattle.std.proofs.Common.{◌-◌, ◌≤◌, length, take, vec_len}
-use Rattle.sz_hss.specs.Built.{IsTreeAt}
 use Rattle.sz_hss.specs.Signature.{AreSignatures}
 use Rattle.sz_hss.proofs.trees.sign_all.Given as goal
 
 -- the messages so far are signed
 abbrev pub invariant-runs : goal.invariant-runs
 invariant-runs g l = record {
-  top : IsTreeAt l.trees.items 0 l.key.top;
   so_far : AreSignatures l.key l.first (take (vec_len l.signatures) l.messages) l.signatures.items;
   most : vec_len l.signatures ≤ length l.messages;
 }

@@ -23,7 +23,7 @@ returns-then-behind-gt0-clause-wrong c =
 pub returns-clause-ok : goal.returns-clause-ok
 returns-clause-ok c =
     stored_taken _ _ _ _ _ _ c.in_ok-version.ensures.taken c.in_ok-device.ensures.taken (omega arith)
-    c.in_ok-device.ensures.storable c.in_ok-device.ensures.within
+    c.in_ok-device.ensures.storable c.in_ok-device.ensures.within c.device_widths.ensures
 
 pub returns-clause-faultless : goal.returns-clause-faultless
 returns-clause-faultless c =

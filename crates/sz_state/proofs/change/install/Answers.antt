@@ -1,7 +1,7 @@
-use Rattle.std.proofs.Common.{◌≡◌, IfOk, sym, subst}
+use Rattle.std.proofs.Common.{◌≡◌, IfOk, refl, sym, subst}
 use Rattle.std.proofs.lemmas.Result.{err_from_is_err_and}
 use Rattle.sz_record.specs.Spelling.{new_version, record_bytes}
-use Rattle.sz_record.specs.Stored.{IsStorable}
+use Rattle.sz_record.specs.Stored.{HasWidths, IsStorable}
 use Rattle.sz_record.specs.declared.device.Device.{Device}
 use Rattle.sz_state.specs.Layout.{space_of}
 use Rattle.sz_state.specs.Ran.{RecordReplaced}
@@ -28,6 +28,7 @@ returns-clause-ok g c =
     let old = g.D.Disk.seen c.args.disk.now in
     let new = g.D.Disk.seen c.replace.new.disk in
     let held = c.requires.held in
+    let W : Device → Type 0 = λ d. HasWidths d in
     let e = c.in_ok-device.ensures in
     let after = once_installed c.args.held.device c.args.onboarding.now c.args.staged c.args.when c.args.evidence in
     let P : Device → Type 0 = λ d. RecordReplaced old new c.args.held.ready held.payload (record_bytes new_version d) c.replace.result in
@@ -35,7 +36,7 @@ returns-clause-ok g c =
     let facts = installed-stored old.size held.payload c.args.held.device c.args.staged c.args.onboarding.now c.args.when
     c.args.evidence held.layout held.stored c.requires.can in
     changed old new c.args.held after (record_bytes new_version after) (g.met.D.Disk.lawful c.args.disk.now)
-    (g.met.D.Disk.lawful c.replace.new.disk) held (stored_as (space_of old.size) after facts.0 facts.1)
+    (g.met.D.Disk.lawful c.replace.new.disk) held (stored_as (space_of old.size) after facts.0 facts.1 (subst W e c.device_widths.ensures)) refl
     c.replace.result (subst P e (c.replace.ensures.replaced held.payload held.ready)) (subst Q e c.replace.ensures.device)
 
 pub returns-clause-stands : goal.returns-clause-stands
@@ -43,11 +44,12 @@ returns-clause-stands g c stands in_area =
     let old = g.D.Disk.seen c.args.disk.now in
     let new = g.D.Disk.seen c.replace.new.disk in
     let held = c.requires.held in
+    let W : Device → Type 0 = λ d. HasWidths d in
     let e = c.in_ok-device.ensures in
     let after = once_installed c.args.held.device c.args.onboarding.now c.args.staged c.args.when c.args.evidence in
     let P : Device → Type 0 = λ d. RecordReplaced old new c.args.held.ready held.payload (record_bytes new_version d) c.replace.result in
     let facts = installed-stored old.size held.payload c.args.held.device c.args.staged c.args.onboarding.now c.args.when
     c.args.evidence held.layout held.stored c.requires.can in
     through old new c.args.held after (record_bytes new_version after) (g.met.D.Disk.lawful c.args.disk.now)
-    (g.met.D.Disk.lawful c.replace.new.disk) held (stored_as (space_of old.size) after facts.0 facts.1)
+    (g.met.D.Disk.lawful c.replace.new.disk) held (stored_as (space_of old.size) after facts.0 facts.1 (subst W e c.device_widths.ensures)) refl
     c.replace.result (subst P e (c.replace.ensures.replaced held.payload held.ready)) stands in_area

@@ -14,7 +14,7 @@ returns-in-Ok-clause-made g c =
     made_at (g.D.Disk.seen c.args.disk.now) (g.D.Disk.seen c.format.new.disk) c.args.identity.now c.as_slice.result.now _
     (g.met.D.Disk.lawful c.format.new.disk)
     c.format.ensures.wrote.elsewhere.size c.requires.layout c.of_disk-layout.ensures c.requires.whole
-    (c.as_slice.ensures ∙ c.in_ok-payload.ensures.first)
+    c.in_ok-payload.ensures.wide (c.as_slice.ensures ∙ c.in_ok-payload.ensures.first)
     c.in-Ok.ensures.ok
 
 pub returns-in-Ok-clause-any_moment : goal.returns-in-Ok-clause-any_moment
@@ -22,7 +22,7 @@ returns-in-Ok-clause-any_moment g c =
     made-any_moment (g.D.Disk.seen c.args.disk.now) (g.D.Disk.seen c.format.new.disk) c.args.identity.now c.as_slice.result.now _
     (g.met.D.Disk.lawful c.format.new.disk)
     c.format.ensures.wrote.elsewhere.size c.requires.layout c.of_disk-layout.ensures c.requires.whole
-    (c.as_slice.ensures ∙ c.in_ok-payload.ensures.first)
+    c.in_ok-payload.ensures.wide (c.as_slice.ensures ∙ c.in_ok-payload.ensures.first)
     c.format.ensures.any_moment
 
 pub returns-clause-made : goal.returns-clause-made
@@ -36,7 +36,7 @@ returns-clause-any_moment g c =
     made-any_moment (g.D.Disk.seen c.args.disk.now) (g.D.Disk.seen c.format.new.disk) c.args.identity.now
     c.as_slice.result.now _ (g.met.D.Disk.lawful c.format.new.disk) c.format.ensures.wrote.elsewhere.size
     c.requires.layout c.of_disk-layout.ensures c.requires.whole
-    (c.as_slice.ensures ∙ c.in_ok-payload.ensures.first) c.format.ensures.any_moment
+    c.in_ok-payload.ensures.wide (c.as_slice.ensures ∙ c.in_ok-payload.ensures.first) c.format.ensures.any_moment
 
 pub returns-clause-untouched : goal.returns-clause-untouched
 returns-clause-untouched g c =

@@ -1,9 +1,9 @@
 use Rattle.std.proofs.Common.{refl, ap, subst, ◌∙◌}
+use Rattle.sz_der.specs.Spots.{after, inside, Spot, spot_of, whole_at}
+use Rattle.sz_der.proofs.Steps.{exit, outer_at}
 use Rattle.sz_x509.specs.CertFault.{cert_fault, octets_at}
 use Rattle.sz_x509.specs.CertPlaces.{TbsAt}
-use Rattle.sz_x509.specs.Parts.{after, inside, Spot, spot_of, whole_at}
 use Rattle.sz_x509.specs.View.{fields_of, view}
-use Rattle.sz_x509.proofs.Steps.{exit, outer_at}
 use Rattle.sz_x509.proofs.cert.read_parts.Goals as goal
 
 pub returns-in_err-parts-clause-fault : goal.returns-in_err-parts-clause-fault

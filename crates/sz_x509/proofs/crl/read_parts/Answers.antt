@@ -1,10 +1,10 @@
 use Rattle.std.proofs.Common.{refl, ap, subst, ◌∙◌}
+use Rattle.sz_der.specs.Spots.{after, inside, Spot, spot_of, whole_at}
+use Rattle.sz_der.proofs.Steps.{exit, outer_at}
 use Rattle.sz_x509.specs.CertFault.{octets_at}
 use Rattle.sz_x509.specs.CrlFault.{crl_fault}
 use Rattle.sz_x509.specs.CrlPlaces.{ListAt}
 use Rattle.sz_x509.specs.CrlView.{list_fields, list_view}
-use Rattle.sz_x509.specs.Parts.{after, inside, Spot, spot_of, whole_at}
-use Rattle.sz_x509.proofs.Steps.{exit, outer_at}
 use Rattle.sz_x509.proofs.crl.read_parts.Goals as goal
 
 pub returns-in_err-parts-clause-fault : goal.returns-in_err-parts-clause-fault

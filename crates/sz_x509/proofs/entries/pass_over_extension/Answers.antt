@@ -1,11 +1,11 @@
 use Rattle.std.proofs.Common.{◌≡◌, true, false, None, Some, refl, sym, ap, ◌∙◌}
 use Rattle.std.proofs.lemmas.Result.{MatchResult-weaker}
+use Rattle.sz_der.specs.Spots.{spot_of}
 use Rattle.sz_der.specs.declared.tag.TheConstants.{SEQUENCE}
+use Rattle.sz_der.proofs.Steps.{exit}
 use Rattle.sz_x509.specs.CertFault.{end, Fault, flag_at, flag_spot, value_spot}
 use Rattle.sz_x509.specs.CrlFault.{passed_over_fault}
-use Rattle.sz_x509.specs.Parts.{spot_of}
 use Rattle.sz_x509.specs.declared.fault.CertKind.TheVariants as kinds
-use Rattle.sz_x509.proofs.Steps.{exit}
 use Rattle.sz_x509.proofs.Walking.{shorter_after}
 use Rattle.sz_x509.proofs.entries.pass_over_extension.Goals as goal
 
@@ -42,7 +42,7 @@ returns-then-critical-clause-fault c =
     let inner = c.parts_of-parts.ensures (spot_of c.args.reader.now) c.in_ok-extension.ensures.item in
     let flag : flag_at (spot_of c.take_part-2.new.reader) ≡ true = sym c.in_ok-critical.ensures.flag ∙ c.if-critical.true in
     rw (c.in_ok-extension.ensures.ok, ← inner, c.in_ok-_identifier.ensures.ok, ← c.in_ok-_identifier.ensures.next, c.in_ok-critical.ensures.ok, flag)
-    (ap (λ (x : Fault). Some x) (sym (c.fault_of.ensures (spot_of c.args.reader.now) c.in_ok-extension.ensures.item)))
+    (ap (λ (x : Fault). Some x) (sym (c.part_fault.ensures (spot_of c.args.reader.now) c.in_ok-extension.ensures.item)))
 
 pub returns-in_err-_value-clause-fault : goal.returns-in_err-_value-clause-fault
 unfolding passed_over_fault flag_spot value_spot

@@ -1,9 +1,10 @@
 use Rattle.std.proofs.Common.{◌≡◌, false, List, sym, ap, ◌∙◌}
+use Rattle.sz_der.specs.Spots.{after, each, is_at_end, Spot, spot_of, spots_from}
+use Rattle.sz_der.proofs.Steps.{exit, not_at_end}
+use Rattle.sz_der.proofs.SpotLists.{spots_step}
 use Rattle.sz_x509.specs.CrlFault.{passed_over_fault}
-use Rattle.sz_x509.specs.Parts.{after, each, is_at_end, Spot, spot_of, spots_from}
 use Rattle.sz_x509.proofs.Each.{each_of_none, each_on, each_stops}
-use Rattle.sz_x509.proofs.Steps.{exit, not_at_end}
-use Rattle.sz_x509.proofs.Walking.{none_left, or_none, spots_step}
+use Rattle.sz_x509.proofs.Walking.{none_left, or_none}
 use Rattle.sz_x509.proofs.entries.pass_over_extensions.Goals as goal
 
 pub returns-in_err-pass_over_extension-clause-fault : goal.returns-in_err-pass_over_extension-clause-fault

@@ -1,6 +1,6 @@
 use Rattle.std.proofs.Common.{◌≡◌, length}
+use Rattle.sz_der.specs.Spots.{each, spot_of, spots_from}
 use Rattle.sz_x509.specs.CrlFault.{passed_over_fault}
-use Rattle.sz_x509.specs.Parts.{each, spot_of, spots_from}
 use Rattle.sz_x509.proofs.entries.pass_over_extensions.Given as goal
 
 -- the items up to here have no fault

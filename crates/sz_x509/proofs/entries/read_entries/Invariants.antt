@@ -1,6 +1,6 @@
 use Rattle.std.proofs.Common.{◌≡◌, length}
+use Rattle.sz_der.specs.Spots.{each, spot_of, spots_from}
 use Rattle.sz_x509.specs.CrlFault.{entry_fault}
-use Rattle.sz_x509.specs.Parts.{each, spot_of, spots_from}
 use Rattle.sz_x509.proofs.entries.read_entries.Given as goal
 
 -- the items up to here have no fault

@@ -1,10 +1,10 @@
 use Rattle.std.proofs.Common.{◌≡◌, None, refl, sym, ◌∙◌}
 use Rattle.std.proofs.lemmas.Result.{MatchResult-weaker}
+use Rattle.sz_der.specs.Spots.{each, spot_of, spots_from}
 use Rattle.sz_der.specs.declared.tag.TheConstants.{SEQUENCE}
+use Rattle.sz_der.proofs.Optional.{after_next, after_other}
+use Rattle.sz_der.proofs.Steps.{exit}
 use Rattle.sz_x509.specs.CrlFault.{entry_extensions_fault, passed_over_fault}
-use Rattle.sz_x509.specs.Parts.{each, spot_of, spots_from}
-use Rattle.sz_x509.proofs.Chains.{after_next, after_other}
-use Rattle.sz_x509.proofs.Steps.{exit}
 use Rattle.sz_x509.proofs.entries.skip_entry_extensions.Goals as goal
 
 pub returns-then-not-is_next-clause-ok : goal.returns-then-not-is_next-clause-ok

@@ -1,10 +1,10 @@
 use Rattle.std.proofs.Common.{refl, sym, ◌∙◌}
+use Rattle.sz_der.specs.Spots.{spot_of}
 use Rattle.sz_der.specs.declared.tag.TheConstants.{SEQUENCE}
+use Rattle.sz_der.proofs.Optional.{after_next, after_other}
+use Rattle.sz_der.proofs.Steps.{exit}
 use Rattle.sz_x509.specs.CrlFault.{revoked_fault}
-use Rattle.sz_x509.specs.Parts.{spot_of}
-use Rattle.sz_x509.proofs.Chains.{after_next, after_other}
 use Rattle.sz_x509.proofs.CrlParts.{entries_next, entries_other}
-use Rattle.sz_x509.proofs.Steps.{exit}
 use Rattle.sz_x509.proofs.entries.take_entries.Goals as goal
 
 pub returns-then-not-is_next-clause-ok : goal.returns-then-not-is_next-clause-ok

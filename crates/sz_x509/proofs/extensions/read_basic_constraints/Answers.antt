@@ -1,6 +1,6 @@
 use Rattle.std.proofs.Common.{refl}
+use Rattle.sz_der.proofs.Steps.{exit}
 use Rattle.sz_x509.specs.CertFault.{basic_constraints_fault}
-use Rattle.sz_x509.proofs.Steps.{exit}
 use Rattle.sz_x509.proofs.extensions.read_basic_constraints.Goals as goal
 
 pub returns-in_err-parts-clause-fault : goal.returns-in_err-parts-clause-fault

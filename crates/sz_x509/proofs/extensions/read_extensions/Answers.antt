@@ -1,13 +1,14 @@
 use Rattle.std.proofs.Common.{◌≡◌, false, List, [], ◌∷◌, ◌++◌, refl, sym, ap, subst, ◌∙◌, append_assoc, arith, length-append}
 use Rattle.std.proofs.lemmas.List.{append-nil}
+use Rattle.sz_der.specs.Spots.{after, is_at_end, Spot, spot_of, spots_from}
+use Rattle.sz_der.proofs.Steps.{exit, not_at_end}
+use Rattle.sz_der.proofs.SpotLists.{spots_step}
 use Rattle.sz_x509.specs.CertFault.{each_fault}
 use Rattle.sz_x509.specs.CertPlaces.{LeadHere, RestrictedAt}
-use Rattle.sz_x509.specs.Parts.{after, is_at_end, Spot, spot_of, spots_from}
 use Rattle.sz_x509.specs.View.{extensions_of}
 use Rattle.sz_x509.proofs.Adding.{restricted_by_none, restricted_more}
 use Rattle.sz_x509.proofs.ExtensionLists.{new_of}
-use Rattle.sz_x509.proofs.Steps.{exit, not_at_end}
-use Rattle.sz_x509.proofs.Walking.{begins_from_none, each_fails, each_step, lead_more, lead_nowhere, no_more, none_left, or_none, spots_step}
+use Rattle.sz_x509.proofs.Walking.{begins_from_none, each_fails, each_step, lead_more, lead_nowhere, no_more, none_left, or_none}
 use Rattle.sz_x509.proofs.extensions.read_extensions.Goals as goal
 
 pub loop-reader-init : goal.loop-reader-init

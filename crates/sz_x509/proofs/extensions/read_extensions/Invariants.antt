@@ -1,8 +1,8 @@
 use Rattle.std.proofs.Common.{◌≡◌, List, [], ◌++◌, length, ◌≤◌}
+use Rattle.sz_der.specs.Spots.{Spot, spot_of, spots_from}
 use Rattle.sz_x509.specs.CertFault.{each_fault}
 use Rattle.sz_x509.specs.CertPlaces.{LeadHere, RestrictedAt}
 use Rattle.sz_x509.specs.Extensions.{most_extensions}
-use Rattle.sz_x509.specs.Parts.{Spot, spot_of, spots_from}
 use Rattle.sz_x509.specs.View.{extensions_of}
 use Rattle.sz_x509.proofs.extensions.read_extensions.Given as goal
 

@@ -1,11 +1,11 @@
 use Rattle.std.proofs.Common.{Some, refl, sym, ap}
+use Rattle.sz_der.specs.Spots.{spot_of}
 use Rattle.sz_der.specs.declared.tag.TheConstants.{BIT_STRING}
+use Rattle.sz_der.proofs.Steps.{exit, fails, part_tag, passes}
 use Rattle.sz_x509.specs.CertFault.{Fault, key_usage_fault}
 use Rattle.sz_x509.specs.Contents.{is_bits}
-use Rattle.sz_x509.specs.Parts.{spot_of}
 use Rattle.sz_x509.specs.declared.fault.CertKind.TheVariants as kinds
 use Rattle.sz_x509.proofs.Chains.{bits_content_test, bits_of}
-use Rattle.sz_x509.proofs.Steps.{exit, fails, part_tag, passes}
 use Rattle.sz_x509.proofs.extensions.read_key_usage.Goals as goal
 
 pub returns-in_err-item-clause-fault : goal.returns-in_err-item-clause-fault
@@ -19,11 +19,11 @@ returns-in_default-clause-fault c =
     let spot = spot_of c.args.value.now in
     let item = c.in_ok-item.item in
     let is = c.in_ok-item.ensures.item in
-    let tag = part_tag kinds.Der BIT_STRING spot item c.in_ok-item.ensures.ok is in
+    let tag = part_tag _ _ BIT_STRING spot item c.in_ok-item.ensures.ok is in
     let test = fails is_bits spot item is (λ e.
     let bits = bits_of item.content.now e in
     absurd (cc (c.in_default.ensures.only bits.0 bits.1 tag bits.2 bits.3))) in
-    rw (c.in_ok-item.ensures.ok, test) (ap (λ (x : Fault). Some x) (sym (c.fault_of.ensures spot is)))
+    rw (c.in_ok-item.ensures.ok, test) (ap (λ (x : Fault). Some x) (sym (c.part_fault.ensures spot is)))
 
 pub returns-in_err-expect_end-clause-fault : goal.returns-in_err-expect_end-clause-fault
 unfolding key_usage_fault

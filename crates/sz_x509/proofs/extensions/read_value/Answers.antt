@@ -1,12 +1,12 @@
 use Rattle.std.proofs.Common.{Some, refl, sym, ap, ◌∙◌}
+use Rattle.sz_der.specs.Spots.{spot_of}
+use Rattle.sz_der.proofs.Steps.{exit}
 use Rattle.sz_x509.specs.CertFault.{value_fault}
-use Rattle.sz_x509.specs.Parts.{spot_of}
 use Rattle.sz_x509.specs.View.{extensions_of}
 use Rattle.sz_x509.specs.declared.identifier.TheConstants.{BASIC_CONSTRAINTS, KEY_USAGE, SUBJECT_KEY_IDENTIFIER}
 use Rattle.sz_x509.proofs.Adding.{adds_basic_constraints, adds_key_identifier, adds_key_usage, adds_nothing, compared}
-use Rattle.sz_x509.proofs.Steps.{exit}
-use Rattle.sz_x509.proofs.extensions.read_value.Goals as goal
 use Rattle.sz_x509.proofs.extensions.read_value.Goals.{then-eq+in_ok-ca, else-eq+then-eq-2+in_ok-read_key_usage, else-eq+else-eq-2+then-eq-3+in_ok-read_key_identifier, else-eq+else-eq-2+else-eq-3}
+use Rattle.sz_x509.proofs.extensions.read_value.Goals as goal
 
 pub returns-in_err-ca-clause-fault : goal.returns-in_err-ca-clause-fault
 unfolding value_fault

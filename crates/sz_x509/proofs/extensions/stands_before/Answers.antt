@@ -1,8 +1,8 @@
-use Rattle.std.proofs.Common.{ℕ, List, ap, sym, subst, ◌∙◌, ◌≡◌, true, false}
 use Rattle.std.specs.Prelude.{bytes_eq}
+use Rattle.std.proofs.Common.{ℕ, List, ap, sym, subst, ◌∙◌, ◌≡◌, true, false}
+use Rattle.sz_der.specs.Spots.{Spot, spot_of}
 use Rattle.sz_x509.specs.CertFault.{identifier_at, stands_among}
 use Rattle.sz_x509.specs.CertPlaces.{LeadHere}
-use Rattle.sz_x509.specs.Parts.{Spot, spot_of}
 use Rattle.sz_x509.proofs.Walking.{arrived, goes_on, longer, not_longer, passed_over, stands_next}
 use Rattle.sz_x509.proofs.extensions.stands_before.Goals as goal
 

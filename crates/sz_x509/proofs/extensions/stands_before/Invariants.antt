@@ -1,7 +1,7 @@
 use Rattle.std.proofs.Common.{◌≡◌, List, length, ◌-◌}
+use Rattle.sz_der.specs.Spots.{Spot, spot_of}
 use Rattle.sz_x509.specs.CertFault.{stands_among}
 use Rattle.sz_x509.specs.CertPlaces.{LeadHere}
-use Rattle.sz_x509.specs.Parts.{Spot, spot_of}
 use Rattle.sz_x509.proofs.extensions.stands_before.Given as goal
 
 -- the identifier is among the earlier extensions exactly where it is among those that are left up to here

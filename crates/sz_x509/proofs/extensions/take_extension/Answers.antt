@@ -1,15 +1,15 @@
 use Rattle.std.proofs.Common.{◌≡◌, true, false, not, ◌||◌, Some, None, refl, sym, ap, ◌∙◌, arith}
 use Rattle.std.proofs.lemmas.Bool.{not_from_false, or_left, or_right}
 use Rattle.std.proofs.lemmas.Result.{MatchResult-weaker}
+use Rattle.sz_der.specs.Spots.{content_at, spot_of}
 use Rattle.sz_der.specs.declared.tag.TheConstants.{SEQUENCE}
+use Rattle.sz_der.proofs.Steps.{exit}
 use Rattle.sz_x509.specs.CertFault.{extension_fault, Fault, flag_at, flag_spot, identifier_at, stands_among, value_fault, value_spot}
 use Rattle.sz_x509.specs.Extensions.{is_known}
-use Rattle.sz_x509.specs.Parts.{content_at, spot_of}
 use Rattle.sz_x509.specs.declared.fault.CertKind.TheVariants as kinds
-use Rattle.sz_x509.proofs.Steps.{exit}
 use Rattle.sz_x509.proofs.Walking.{has_no_room, has_room, shorter_after}
-use Rattle.sz_x509.proofs.extensions.take_extension.Goals as goal
 use Rattle.sz_x509.proofs.extensions.take_extension.Goals.{else-branch-via-then-branch+else-not-is_known, else-branch-via-else-branch}
+use Rattle.sz_x509.proofs.extensions.take_extension.Goals as goal
 
 pub returns-in_err-extension-clause-fault : goal.returns-in_err-extension-clause-fault
 unfolding extension_fault identifier_at flag_spot value_spot
@@ -21,7 +21,7 @@ unfolding extension_fault
 returns-then-before-ge-MOST_EXTENSIONS-clause-fault c = λ earlier lead count.
     let full = has_no_room earlier c.args.before count (omega (arith, c.if-before-ge-MOST_EXTENSIONS.true)) in
     rw (c.in_ok-extension.ensures.ok, full)
-    (ap (λ (x : Fault). Some x) (sym (c.fault_of.ensures (spot_of c.args.reader.now) c.in_ok-extension.ensures.item)))
+    (ap (λ (x : Fault). Some x) (sym (c.part_fault.ensures (spot_of c.args.reader.now) c.in_ok-extension.ensures.item)))
 
 pub returns-in_err-identifier-clause-fault : goal.returns-in_err-identifier-clause-fault
 unfolding extension_fault identifier_at flag_spot value_spot
@@ -44,7 +44,7 @@ returns-then-stands_before-clause-fault c = λ earlier lead count.
     ap (λ identifier. stands_among earlier identifier) (sym c.in_ok-identifier.ensures.item.content) ∙ sym (c.stands_before.ensures earlier lead)
     ∙ c.if-stands_before.true in
     rw (c.in_ok-extension.ensures.ok, room, ← inner, c.in_ok-identifier.ensures.ok, twice)
-    (ap (λ (x : Fault). Some x) (sym (c.fault_of-then-stands_before.ensures (spot_of c.args.reader.now) c.in_ok-extension.ensures.item)))
+    (ap (λ (x : Fault). Some x) (sym (c.part_fault-then-stands_before.ensures (spot_of c.args.reader.now) c.in_ok-extension.ensures.item)))
 
 pub returns-in_err-take_flag-clause-fault : goal.returns-in_err-take_flag-clause-fault
 unfolding extension_fault identifier_at flag_spot value_spot
@@ -86,7 +86,7 @@ returns-then-not-is_known-clause-fault c = λ earlier lead count.
       c.if-branch.true,
       unknown,
     )
-    (ap (λ (x : Fault). Some x) (sym (c.fault_of-then-not-is_known.ensures (spot_of c.args.reader.now) c.in_ok-extension.ensures.item)))
+    (ap (λ (x : Fault). Some x) (sym (c.part_fault-then-not-is_known.ensures (spot_of c.args.reader.now) c.in_ok-extension.ensures.item)))
 
 pub returns-in_err-value-clause-fault : goal.returns-in_err-value-clause-fault
 unfolding extension_fault identifier_at flag_spot value_spot

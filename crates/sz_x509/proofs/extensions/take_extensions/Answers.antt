@@ -1,10 +1,10 @@
 use Rattle.std.proofs.Common.{refl, sym, ◌∙◌}
+use Rattle.sz_der.specs.Spots.{spot_of}
+use Rattle.sz_der.proofs.Optional.{after_next, after_other}
+use Rattle.sz_der.proofs.Steps.{exit}
 use Rattle.sz_x509.specs.CertFault.{extensions_fault}
-use Rattle.sz_x509.specs.Parts.{spot_of}
 use Rattle.sz_x509.specs.declared.tag.TheConstants.{EXTENSIONS}
 use Rattle.sz_x509.proofs.Adding.{restricted_by_none}
-use Rattle.sz_x509.proofs.Chains.{after_next, after_other}
-use Rattle.sz_x509.proofs.Steps.{exit}
 use Rattle.sz_x509.proofs.Whole.{spots_next, spots_other}
 use Rattle.sz_x509.proofs.extensions.take_extensions.Goals as goal
 

@@ -1,7 +1,7 @@
 use Rattle.std.proofs.Common.{ap, ◌∙◌}
-use Rattle.sz_x509.specs.CertFault.{identifier_at}
-use Rattle.sz_x509.specs.Parts.{content_at}
+use Rattle.sz_der.specs.Spots.{content_at}
 use Rattle.sz_der.specs.declared.tag.TheConstants.{SEQUENCE}
+use Rattle.sz_x509.specs.CertFault.{identifier_at}
 use Rattle.sz_x509.specs.declared.fault.CertKind.TheVariants as kinds
 use Rattle.sz_x509.proofs.Walking.{shorter_after}
 use Rattle.sz_x509.proofs.extensions.take_identifier.Goals as goal

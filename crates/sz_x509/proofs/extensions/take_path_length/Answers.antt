@@ -1,14 +1,16 @@
 use Rattle.std.proofs.Common.{rules, ◌≡◌, ℕ, List, true, Some, refl, sym, ap, ◌∙◌, pos}
 use Rattle.std.proofs.lemmas.Bool.{false≢true}
 use Rattle.sz_der.specs.Der.{number_of}
-use Rattle.sz_der.specs.Integer.{IsIntegerOf}
+use Rattle.sz_der.specs.Integer.{is_integer, IsIntegerOf}
+use Rattle.sz_der.specs.Spots.{is_next, spot_of}
 use Rattle.sz_der.specs.declared.tag.TheConstants.{INTEGER}
+use Rattle.sz_der.proofs.Optional.{after_next, after_other, next_tag}
+use Rattle.sz_der.proofs.Steps.{exit, fails, passes}
+use Rattle.sz_der.proofs.IntegerTest.{integer_test, IsInteger_from_test}
 use Rattle.sz_x509.specs.CertFault.{Fault, path_length_fault}
-use Rattle.sz_x509.specs.Contents.{is_integer, is_u32}
-use Rattle.sz_x509.specs.Parts.{is_next, spot_of}
-use Rattle.sz_x509.proofs.Chains.{after_next, after_other, next_tag, path_length-next, path_length-other}
-use Rattle.sz_x509.proofs.Steps.{exit, fails, passes}
-use Rattle.sz_x509.proofs.Values.{integer_test, IsInteger_from_test, IsIntegerOf_from_tests, number_is, u32_test}
+use Rattle.sz_x509.specs.Contents.{is_u32}
+use Rattle.sz_x509.proofs.Chains.{path_length-next, path_length-other}
+use Rattle.sz_x509.proofs.Values.{IsIntegerOf_from_tests, number_is, u32_test}
 use Rattle.sz_x509.proofs.extensions.take_path_length.Goals as goal
 
 pub returns-then-not-is_next-clause-ok : goal.returns-then-not-is_next-clause-ok
@@ -69,7 +71,7 @@ returns-in-Ok-None-clause-fault c =
     let number = IsIntegerOf_from_tests item.content.now c.octets_fit.ensures minimal e in
     none (number_of item.content.now) number.0 number.1.writes) in
     rw (sym c.is_next.ensures ∙ c.if-not-is_next.false, c.in_ok-item.ensures.ok, test, past)
-    (ap (λ (x : Fault). Some x) (sym (c.fault_of.ensures spot is)))
+    (ap (λ (x : Fault). Some x) (sym (c.part_fault.ensures spot is)))
 
 pub returns-in-Err-clause-fault : goal.returns-in-Err-clause-fault
 unfolding path_length_fault
@@ -81,4 +83,4 @@ returns-in-Err-clause-fault c =
     let tag : item.tag ≡ INTEGER = is.tag ∙ next_tag INTEGER spot next in
     let test = fails is_integer spot item is
     (λ e. false≢true (c.in-Err.ensures.exact.1 (tag, IsInteger_from_test item.content.now e))) in
-    rw (next, c.in_ok-item.ensures.ok, test) (ap (λ (x : Fault). Some x) (sym (c.fault_of-in-Err.ensures spot is)))
+    rw (next, c.in_ok-item.ensures.ok, test) (ap (λ (x : Fault). Some x) (sym (c.part_fault-in-Err.ensures spot is)))

@@ -1,12 +1,12 @@
-use Rattle.std.proofs.Common.{◌≡◌, true, false, None, Some, refl, sym, ap, ◌∙◌}
 use Rattle.std.specs.Prelude.{bytes_eq}
+use Rattle.std.proofs.Common.{◌≡◌, true, false, None, Some, refl, sym, ap, ◌∙◌}
 use Rattle.std.proofs.lemmas.Bool.{not-false, not-true}
 use Rattle.std.proofs.lemmas.Result.{MatchResult-weaker, on_ok_weaker}
+use Rattle.sz_der.specs.Spots.{content_at, spot_of}
+use Rattle.sz_der.proofs.Steps.{exit, same_content}
 use Rattle.sz_x509.specs.CertFault.{algorithm_fault, end, Fault}
-use Rattle.sz_x509.specs.Parts.{content_at, spot_of}
 use Rattle.sz_x509.specs.declared.fault.CertKind.TheVariants as kinds
 use Rattle.sz_x509.specs.declared.identifier.TheConstants.{HSS_LMS}
-use Rattle.sz_x509.proofs.Steps.{exit, same_content}
 use Rattle.sz_x509.proofs.parts.take_algorithm.Goals as goal
 
 pub returns-in_err-parts-clause-fault : goal.returns-in_err-parts-clause-fault
@@ -28,7 +28,7 @@ returns-then-ne-clause-fault c =
     same_content (spot_of c.in_ok-parts.parts) c.in_ok-identifier.identifier HSS_LMS c.as_slice.result.now is c.as_slice.ensures
     ∙ not-true _ (sym c.if-ne.ensures) in
     rw (c.in_ok-parts.ensures.ok, ← c.in_ok-parts.ensures.inside, c.in_ok-identifier.ensures.ok, test)
-    (ap (λ (x : Fault). Some x) (sym (c.fault_of.ensures (spot_of c.in_ok-parts.parts) is)))
+    (ap (λ (x : Fault). Some x) (sym (c.part_fault.ensures (spot_of c.in_ok-parts.parts) is)))
 
 pub returns-clause-ok : goal.returns-clause-ok
 unfolding algorithm_fault

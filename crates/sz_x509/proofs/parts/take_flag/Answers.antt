@@ -1,10 +1,11 @@
 use Rattle.std.proofs.Common.{◌≡◌, true, Some, refl, sym, ap, ◌∙◌}
+use Rattle.sz_der.specs.Spots.{is_next, spot_of}
 use Rattle.sz_der.specs.declared.tag.TheConstants.{BOOLEAN}
+use Rattle.sz_der.proofs.Optional.{after_next, after_other, next_tag}
+use Rattle.sz_der.proofs.Steps.{exit, fails, passes}
 use Rattle.sz_x509.specs.CertFault.{Fault, flag_fault}
 use Rattle.sz_x509.specs.Contents.{is_boolean, is_true_content}
-use Rattle.sz_x509.specs.Parts.{is_next, spot_of}
-use Rattle.sz_x509.proofs.Chains.{after_next, after_other, flag_at-next, flag_at-other, next_tag}
-use Rattle.sz_x509.proofs.Steps.{exit, fails, passes}
+use Rattle.sz_x509.proofs.Chains.{flag_at-next, flag_at-other}
 use Rattle.sz_x509.proofs.Values.{boolean_test, boolean_value, IsBoolean_from_test}
 use Rattle.sz_x509.proofs.parts.take_flag.Goals as goal
 
@@ -53,4 +54,4 @@ returns-in-Err-clause-fault c =
     let tag : item.tag ≡ BOOLEAN = is.tag ∙ next_tag BOOLEAN spot next in
     let test = fails is_boolean spot item is
     (λ e. absurd (cc (c.in-Err.ensures.only (is_true_content item.content.now) tag (IsBoolean_from_test item.content.now e)))) in
-    rw (next, c.in_ok-item.ensures.ok, test) (ap (λ (x : Fault). Some x) (sym (c.fault_of.ensures spot is)))
+    rw (next, c.in_ok-item.ensures.ok, test) (ap (λ (x : Fault). Some x) (sym (c.part_fault.ensures spot is)))

@@ -1,9 +1,9 @@
 use Rattle.std.proofs.Common.{List, ℕ, Some, drop, refl, sym, ap, ◌∙◌}
+use Rattle.sz_der.specs.Spots.{spot_of}
 use Rattle.sz_der.specs.declared.tag.TheConstants.{BIT_STRING}
+use Rattle.sz_der.proofs.Steps.{exit, fails, part_tag, passes}
 use Rattle.sz_x509.specs.CertFault.{Fault, octets_at, octets_fault}
 use Rattle.sz_x509.specs.Contents.{is_whole_octets}
-use Rattle.sz_x509.specs.Parts.{spot_of}
-use Rattle.sz_x509.proofs.Steps.{exit, fails, part_tag, passes}
 use Rattle.sz_x509.proofs.Values.{whole_octets_from_test, whole_octets_test}
 use Rattle.sz_x509.proofs.parts.take_octets.Goals as goal
 
@@ -31,7 +31,7 @@ returns-in-Err-clause-fault c =
     let spot = spot_of c.args.reader.now in
     let item = c.in_ok-item.item in
     let is = c.in_ok-item.ensures.item in
-    let tag = part_tag c.args.other BIT_STRING spot item c.in_ok-item.ensures.ok is in
+    let tag = part_tag _ _ BIT_STRING spot item c.in_ok-item.ensures.ok is in
     let test = fails is_whole_octets spot item is
     (λ e. absurd (c.in-Err.ensures.only (drop 1 item.content.now) tag (whole_octets_from_test item.content.now e))) in
-    rw (c.in_ok-item.ensures.ok, test) (ap (λ (x : Fault). Some x) (sym (c.fault_of.ensures spot is)))
+    rw (c.in_ok-item.ensures.ok, test) (ap (λ (x : Fault). Some x) (sym (c.part_fault.ensures spot is)))

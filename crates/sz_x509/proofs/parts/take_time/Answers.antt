@@ -1,14 +1,14 @@
+use Rattle.std.specs.Prelude.{FitsSigned}
+use Rattle.std.specs.Int.{w64}
 use Rattle.std.proofs.Common.{rules, ◌≡◌, true, Some, refl, sym, ap, ◌∙◌}
 use Rattle.std.proofs.lemmas.Bool.{false_from_ne_true}
 use Rattle.std.proofs.lemmas.Int.{to_z-of_z}
-use Rattle.std.specs.Prelude.{FitsSigned}
-use Rattle.std.specs.Int.{w64}
 use Rattle.sz_calendar.specs.CivilTime.{unix_seconds}
+use Rattle.sz_der.specs.Spots.{content_at, spot_of, tag_at}
+use Rattle.sz_der.proofs.Steps.{exit}
 use Rattle.sz_x509.specs.CertFault.{Fault, time_fault}
 use Rattle.sz_x509.specs.CertPlaces.{seconds_at}
 use Rattle.sz_x509.specs.Contents.{is_time, time_in}
-use Rattle.sz_x509.specs.Parts.{content_at, spot_of, tag_at}
-use Rattle.sz_x509.proofs.Steps.{exit}
 use Rattle.sz_x509.proofs.Times.{NamesTime_from_test, time_test, time_value}
 use Rattle.sz_x509.proofs.parts.take_time.Goals as goal
 
@@ -47,4 +47,4 @@ returns-in-Err-clause-fault c =
     let test = false_from_ne_true (is_time (tag_at spot) (content_at spot)) (λ e.
     let told : is_time item.tag item.content.now ≡ true = rw (is.tag, is.content) e in
     absurd (cc (c.in-Err.ensures.only (time_in item.tag item.content.now) (NamesTime_from_test item.tag item.content.now told)))) in
-    rw (c.in_ok-item.ensures.ok, test) (ap (λ (x : Fault). Some x) (sym (c.fault_of.ensures spot is)))
+    rw (c.in_ok-item.ensures.ok, test) (ap (λ (x : Fault). Some x) (sym (c.part_fault.ensures spot is)))

@@ -1,10 +1,10 @@
 use Rattle.std.proofs.Common.{refl, ap, subst, ◌∙◌}
+use Rattle.sz_der.specs.Spots.{after, after_optional, content_at, inside, Spot, whole_at}
+use Rattle.sz_der.proofs.Steps.{exit}
 use Rattle.sz_x509.specs.CertFault.{tbs_parts_fault}
 use Rattle.sz_x509.specs.CertPlaces.{extension_spots, key_at, RestrictedAt, seconds_at}
-use Rattle.sz_x509.specs.Parts.{after, after_optional, content_at, inside, Spot, whole_at}
 use Rattle.sz_x509.specs.View.{extensions_of, fields_of}
 use Rattle.sz_x509.specs.declared.tag.TheConstants.{ISSUER_UNIQUE_ID, SUBJECT_UNIQUE_ID}
-use Rattle.sz_x509.proofs.Steps.{exit}
 use Rattle.sz_x509.proofs.tbs.read_tbs.Goals as goal
 
 pub returns-in_err-take_version-clause-fault : goal.returns-in_err-take_version-clause-fault

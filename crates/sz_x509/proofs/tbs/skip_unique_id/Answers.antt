@@ -1,8 +1,8 @@
 use Rattle.std.proofs.Common.{refl, sym, ◌∙◌}
+use Rattle.sz_der.specs.Spots.{spot_of}
+use Rattle.sz_der.proofs.Optional.{after_next, after_other}
+use Rattle.sz_der.proofs.Steps.{exit}
 use Rattle.sz_x509.specs.CertFault.{unique_id_fault}
-use Rattle.sz_x509.specs.Parts.{spot_of}
-use Rattle.sz_x509.proofs.Chains.{after_next, after_other}
-use Rattle.sz_x509.proofs.Steps.{exit}
 use Rattle.sz_x509.proofs.tbs.skip_unique_id.Goals as goal
 
 pub returns-in_err-_id-clause-fault : goal.returns-in_err-_id-clause-fault

@@ -1,8 +1,8 @@
 use Rattle.std.proofs.Common.{Some, ap, refl, sym, ◌∙◌}
+use Rattle.sz_der.specs.Spots.{after, Spot, spot_of}
+use Rattle.sz_der.proofs.Steps.{exit}
 use Rattle.sz_x509.specs.CertFault.{Fault, key_fault, key_in, octets_at}
 use Rattle.sz_x509.specs.CertPlaces.{key_at}
-use Rattle.sz_x509.specs.Parts.{after, Spot, spot_of}
-use Rattle.sz_x509.proofs.Steps.{exit}
 use Rattle.sz_x509.proofs.tbs.take_key.Goals as goal
 
 pub returns-in_err-parts-clause-fault : goal.returns-in_err-parts-clause-fault
@@ -39,7 +39,7 @@ returns-in_default-clause-fault c =
       c.in_ok-bits.ensures.ok,
       ← c.in_ok-bits.ensures.octets,
       c.in_default.ensures.none,
-    ) (ap (λ (x : Fault). Some x) (sym (c.fault_of.ensures (spot_of c.take_algorithm.new.reader) c.in_ok-bits.ensures.item)))
+    ) (ap (λ (x : Fault). Some x) (sym (c.part_fault.ensures (spot_of c.take_algorithm.new.reader) c.in_ok-bits.ensures.item)))
 
 pub returns-in_err-expect_end-clause-fault : goal.returns-in_err-expect_end-clause-fault
 unfolding key_fault

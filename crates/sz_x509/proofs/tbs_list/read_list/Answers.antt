@@ -1,10 +1,10 @@
 use Rattle.std.proofs.Common.{refl, ap, ◌∙◌}
+use Rattle.sz_der.specs.Spots.{after, whole_at}
+use Rattle.sz_der.proofs.Steps.{exit}
 use Rattle.sz_x509.specs.CertPlaces.{seconds_at}
 use Rattle.sz_x509.specs.CrlFault.{after_next_update, list_parts_fault}
 use Rattle.sz_x509.specs.CrlPlaces.{entries_at, next_update_at}
 use Rattle.sz_x509.specs.CrlView.{list_fields}
-use Rattle.sz_x509.specs.Parts.{after, whole_at}
-use Rattle.sz_x509.proofs.Steps.{exit}
 use Rattle.sz_x509.proofs.tbs_list.read_list.Goals as goal
 
 pub returns-in_err-skip_version-clause-fault : goal.returns-in_err-skip_version-clause-fault

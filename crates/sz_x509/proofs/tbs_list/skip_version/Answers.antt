@@ -1,15 +1,15 @@
-use Rattle.std.proofs.Common.{◌≡◌, ℕ, true, false, List, [], ◌∷◌, Some, refl, sym, ap, ◌∙◌}
 use Rattle.std.specs.Prelude.{bytes_eq}
+use Rattle.std.proofs.Common.{◌≡◌, ℕ, true, false, List, [], ◌∷◌, Some, refl, sym, ap, ◌∙◌}
 use Rattle.std.proofs.lemmas.Bool.{false≢true, not-false, not-true}
+use Rattle.sz_der.specs.Integer.{is_integer}
+use Rattle.sz_der.specs.Spots.{content_at, is_next, spot_of}
 use Rattle.sz_der.specs.declared.tag.TheConstants.{INTEGER}
+use Rattle.sz_der.proofs.Optional.{after_next, after_other, next_tag}
+use Rattle.sz_der.proofs.Steps.{exit, fails, passes}
+use Rattle.sz_der.proofs.IntegerTest.{integer_test, IsInteger_from_test}
 use Rattle.sz_x509.specs.CertFault.{Fault}
-use Rattle.sz_x509.specs.Contents.{is_integer}
 use Rattle.sz_x509.specs.CrlFault.{list_algorithm_spot, list_version_fault}
-use Rattle.sz_x509.specs.Parts.{content_at, is_next, spot_of}
 use Rattle.sz_x509.proofs.Adding.{compared}
-use Rattle.sz_x509.proofs.Chains.{after_next, after_other, next_tag}
-use Rattle.sz_x509.proofs.Steps.{exit, fails, passes}
-use Rattle.sz_x509.proofs.Values.{integer_test, IsInteger_from_test}
 use Rattle.sz_x509.proofs.tbs_list.skip_version.Goals as goal
 
 pub returns-then-not-is_next-clause-ok : goal.returns-then-not-is_next-clause-ok
@@ -36,7 +36,7 @@ returns-in_default-clause-fault c =
     let test = fails is_integer (spot_of c.args.reader.now) version c.in_ok-version.ensures.item
     (λ e. false≢true (c.in_default.ensures.exact.1 (tag, IsInteger_from_test version.content.now e))) in
     rw (sym c.is_next.ensures ∙ c.if-not-is_next.false, c.in_ok-version.ensures.ok, test)
-    (ap (λ (x : Fault). Some x) (sym (c.fault_of.ensures (spot_of c.args.reader.now) c.in_ok-version.ensures.item)))
+    (ap (λ (x : Fault). Some x) (sym (c.part_fault.ensures (spot_of c.args.reader.now) c.in_ok-version.ensures.item)))
 
 pub returns-then-ne-clause-fault : goal.returns-then-ne-clause-fault
 unfolding list_version_fault
@@ -47,7 +47,7 @@ returns-then-ne-clause-fault c =
     ap (λ (x : List ℕ). bytes_eq x (1 ∷ [])) (sym c.in_ok-version.ensures.item.content ∙ sym c.in-Ok.ensures.value)
     ∙ compared c.in-Ok.octets.now (1 ∷ []) c.as_slice.result.now c.as_slice.ensures ∙ not-true _ (sym c.if-ne.ensures) in
     rw (sym c.is_next.ensures ∙ c.if-not-is_next.false, c.in_ok-version.ensures.ok, minimal, is)
-    (ap (λ (x : Fault). Some x) (sym (c.fault_of-then-ne.ensures (spot_of c.args.reader.now) c.in_ok-version.ensures.item)))
+    (ap (λ (x : Fault). Some x) (sym (c.part_fault-then-ne.ensures (spot_of c.args.reader.now) c.in_ok-version.ensures.item)))
 
 pub returns-clause-ok : goal.returns-clause-ok
 unfolding list_version_fault

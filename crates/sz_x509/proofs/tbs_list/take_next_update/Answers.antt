@@ -1,8 +1,8 @@
 use Rattle.std.proofs.Common.{refl, sym, ap, ◌∙◌, Some, ℤ}
+use Rattle.sz_der.specs.Spots.{spot_of}
+use Rattle.sz_der.proofs.Steps.{exit}
 use Rattle.sz_x509.specs.CrlFault.{next_update_fault}
-use Rattle.sz_x509.specs.Parts.{spot_of}
 use Rattle.sz_x509.proofs.CrlParts.{after_no_time, after_time, next_time, no_next_time}
-use Rattle.sz_x509.proofs.Steps.{exit}
 use Rattle.sz_x509.proofs.tbs_list.take_next_update.Goals as goal
 
 pub returns-then-not-is_time_next-clause-ok : goal.returns-then-not-is_time_next-clause-ok

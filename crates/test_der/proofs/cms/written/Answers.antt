@@ -1,5 +1,5 @@
 use Rattle.std.proofs.Common.{[], ◌∷◌, refl, arith}
-use Rattle.sz_cms.proofs.Contents.{IsInteger_from_test}
+use Rattle.sz_der.proofs.IntegerTest.{IsInteger_from_test}
 use Rattle.sz_cms.proofs.SpelledSequences.{empty_sequence, one_sequence}
 use Rattle.test_der.proofs.cms.written.Goals as goal
 

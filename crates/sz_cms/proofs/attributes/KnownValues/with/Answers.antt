@@ -1,9 +1,9 @@
+use Rattle.std.specs.Prelude.{bytes_eq}
 use Rattle.std.proofs.Common.{refl, sym, ap, ◌∙◌, List, ℕ}
+use Rattle.sz_der.proofs.Steps.{exit}
 use Rattle.sz_cms.specs.MessageFault.{values_fault}
-use Rattle.sz_cms.proofs.Steps.{exit}
 use Rattle.sz_cms.proofs.Readings.{not_digest}
 use Rattle.sz_cms.proofs.attributes.KnownValues.with.Goals as goal
-use Rattle.std.specs.Prelude.{bytes_eq}
 
 pub returns-in_err-value-clause-fault : goal.returns-in_err-value-clause-fault
 unfolding values_fault

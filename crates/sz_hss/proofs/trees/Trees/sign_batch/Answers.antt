@@ -30,7 +30,7 @@ sign_all-requires-clause-room g c κs within =
 pub returns-clause-exact : goal.returns-clause-exact
 returns-clause-exact g c =
     let key = c.self.inside.key in
-    let all = c.in_ok-signatures.ensures.all in
+    let all = c.in_ok-signatures.ensures in
     let counted = subst (λ (n : ℕ). AreSignatures key (c.args.first % n) c.as_slice-messages.result.now c.in_ok-signatures.signatures.items)
     c.leaf_count.ensures.count all in
     let whole = AreSignatures-wrapped key c.args.first c.as_slice-messages.result.now c.in_ok-signatures.signatures.items counted in

@@ -23,7 +23,7 @@ returns-in_err-key-clause-answer g c =
 pub invariant_of-result : goal.invariant_of-result
 invariant_of-result g c = (
   subst (λ (k : HssKey). IsStorable (record { key = k; next = c.in_ok-key.field-0.next; end = c.in_ok-key.field-0.end }))
-      (sym c.in_ok-trees.ensures) c.in_ok-key.ensures.storable,
+      (sym c.of-trees.ensures) c.in_ok-key.ensures.storable,
   (c.in_ok-ready.ensures.ok.at_is, c.in_ok-ready.ensures.ok.capacity_is),
 )
 
@@ -32,8 +32,8 @@ returns-clause-answer g c =
     let new = g.D.Disk.seen c.read_stored.new.disk in
     let attached = c.in_ok-ready.ensures.ok in
     let found = c.in_ok-key.field-0 in
-    let stored : StoredKey = record { key = c.in_ok-trees.trees; next = found.next; end = found.end } in
-    let key = sym c.in_ok-trees.ensures in
+    let stored : StoredKey = record { key = c.of-trees.result; next = found.next; end = found.end } in
+    let key = sym c.of-trees.ensures in
     let ready = (c.in_ok-key.ensures.stored attached.payload attached.ready).0 in
     Stands-ready new (record { stored = stored; cell = Some c.in_ok-ready.ready }) c.in_ok-ready.ready (spelled stored) refl
     attached.at_is attached.capacity_is

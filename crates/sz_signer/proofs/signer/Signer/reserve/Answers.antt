@@ -1,4 +1,4 @@
-use Rattle.std.proofs.Common.{◌+◌, ℕ, Ok, Err, List, sym, ap, ◌∙◌, subst, arith}
+use Rattle.std.proofs.Common.{◌+◌, Ok, Err, sym, ap, ◌∙◌, subst, arith}
 use Rattle.std.proofs.lemmas.Result.{err_from_is_err_and}
 use Rattle.sz_disk.specs.Disk.{LeavesOnly}
 use Rattle.sz_hss.specs.Key.{HssKey}
@@ -66,8 +66,7 @@ returns-clause-answer g c =
     let inside = c.self.inside in
     let signer : SignerState = record { stored = record { key = inside.trees; next = inside.next; end = inside.end }; cell = inside.cell } in
     let leaves = c.of.ensures
-    ∙ ap (λ (i : List ℕ). let r : Reserved = record { id = i; first = inside.next; left = c.args.n } in r)
-    (c.id.ensures ∙ ap (λ (k : HssKey). k.top.id) c.key-2.ensures)
+    ∙ ap (λ (k : HssKey). let r : Reserved = record { key = k; first = inside.next; left = c.args.n } in r) (c.copy.ensures ∙ c.key-2.ensures)
     ∙ ap (λ (s : SignerState). handed_out c.args.n s) c.self.view_is in (
       leaves,
       ap (λ (s : SignerState). advanced c.args.n s.stored) c.self.view_is,

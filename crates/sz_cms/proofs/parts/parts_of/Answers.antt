@@ -1,5 +1,0 @@
-use Rattle.sz_cms.proofs.Steps.{reader_inside}
-use Rattle.sz_cms.proofs.parts.parts_of.Goals as goal
-
-pub returns : goal.returns
-returns c = λ spot is. reader_inside spot c.args.item.now c.inside.result is c.inside.ensures.left c.inside.ensures.end

@@ -1,0 +1,6 @@
+-- An interrupted write took nothing.
+use Rattle.std.specs.Io.KnownBytes.{Keeps}
+use Rattle.sz_real.proofs.connection.Connection.write.Given as goal
+
+abbrev pub invariant-loop : goal.invariant-loop
+invariant-loop g l = Keeps (g.S.Write.contents l.initial.self.stream) (g.S.Write.contents l.self.stream)
