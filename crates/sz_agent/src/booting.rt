@@ -9,6 +9,7 @@ ghost use Rattle.sz_agent.specs.Boot.{BootOk, ends_early, FoundAs, IsMoment, out
 ghost use Rattle.sz_agent.specs.Crash.{ReadsAs};
 ghost use Rattle.sz_agent.specs.Ending.{blames_disk};
 ghost use Rattle.sz_agent.specs.Lost.{CountsLost, counts_of};
+ghost use Rattle.sz_source.specs.Source.{most_sources};
 
 use crate::choice::Searched;
 use crate::drawing::draw;
@@ -40,7 +41,7 @@ pub fn boot<D: Disk, F: Folder, N: Net, E: Entropy>(
     when: Seconds,
 ) -> Report
     requires layout { HasLayout (D.seen disk.old).size }
-    requires few { length sources ≤ 16 }
+    requires few { length sources ≤ most_sources }
     ensures boot_ok { (before : SomeDevice) (sequence : ℕ) → ReadsAs (D.seen disk.old) before sequence
         → BootOk D.seen disk.old disk.new sources
         (outside_of (F.files folder.old) (N.traffic net.old) (N.traffic net.new)) result before sequence }

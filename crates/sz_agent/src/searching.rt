@@ -9,6 +9,7 @@ ghost use Rattle.sz_walk.specs.Walk.{WhereBothTell};
 ghost use Rattle.sz_agent.specs.Choice.{blames_disk, CanChoose, EndsIdle, GoesOn, IsOpen, IsPrepared, turn_blames_disk, TurnsFrom};
 ghost use Rattle.sz_agent.specs.Lost.{Counts as SomeCounts, CountsLost, counts_of};
 ghost use Rattle.sz_agent.specs.Quest.{quest_of};
+ghost use Rattle.sz_source.specs.Source.{most_sources};
 
 use crate::choice::{Choice, Offer, Searched};
 use crate::weighing::weigh;
@@ -34,7 +35,7 @@ pub(crate) fn search<D: Disk, F: Folder, N: Net>(
     when: Moment,
 ) -> Searched
     requires open { IsOpen (D.seen disk.old) held.now }
-    requires few { length sources ≤ 16 }
+    requires few { length sources ≤ most_sources }
     ensures ends { WhereBothTell (F.files folder.old) (N.traffic net.old) (N.traffic net.new)
         (λ files began now. EndsIdle (quest_of (looker_of (D.seen disk.old) held.now when) sources files)
         result.choice result.visits began now) }
@@ -60,7 +61,7 @@ pub(crate) fn search<D: Disk, F: Folder, N: Net>(
 
 // The walk over the sources, before its first visit, and the buffer of its downloads.
 fn prepare(alloc: Global, sources: Sources) -> Result<(Walk, Reading), OutOfMemory>
-    requires few { length sources ≤ 16 }
+    requires few { length sources ≤ most_sources }
     ensures { IfOk result (λ prepared. IsPrepared sources prepared.0 prepared.1) }
 {
     let walk = Walk::create(alloc, sources)?;

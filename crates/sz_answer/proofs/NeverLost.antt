@@ -7,7 +7,7 @@ use Rattle.sz_cms.specs.Message.{Info, Plain, Signed, SignedData}
 use Rattle.sz_cms.specs.MessageFault.{Fault, info_fault}
 use Rattle.sz_cms.specs.declared.fault.InfoKind.{InfoKind}
 use Rattle.sz_cms.specs.declared.fault.InfoKind.TheVariants as kind
-use Rattle.sz_cms.specs.declared.identifier.TheConstants.{CONVEYED_JSON, CONVEYED_XML, DATA, ENVELOPED_DATA}
+use Rattle.sz_cms.specs.Identifiers.{conveyed_json_oid, conveyed_xml_oid, data_oid, enveloped_data_oid}
 use Rattle.std.specs.Prelude.{◌||◌, bytes_eq}
 use Rattle.sz_artifacts.specs.declared.voucher.judgement.VoucherFault.{VoucherFault}
 use Rattle.sz_artifacts.specs.declared.voucher.judgement.VoucherFault.TheVariants as voucher_fault
@@ -60,8 +60,8 @@ kind_not false false false is = cc
 other_kind_not : (info : Info) → NeverLost (OtherKind info)
 other_kind_not info is =
     let kind = kind_in info in
-    kind_not (bytes_eq kind CONVEYED_JSON || bytes_eq kind DATA) (bytes_eq kind CONVEYED_XML)
-    (bytes_eq kind ENVELOPED_DATA) is
+    kind_not (bytes_eq kind conveyed_json_oid || bytes_eq kind data_oid) (bytes_eq kind conveyed_xml_oid)
+    (bytes_eq kind enveloped_data_oid) is
 
 voucher_not : (fault : VoucherFault) → reason.Lost ≡ voucher_reason fault → ⊥
 voucher_not voucher_fault.WrongSerial is = cc

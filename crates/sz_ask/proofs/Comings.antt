@@ -1,6 +1,6 @@
 -- What has come of a reply after one more front of a piece.
 use Rattle.std.proofs.Common.{◌≡◌, ℕ, ◌+◌, Bool, true, false, List, [], ◌++◌, length, take, refl, sym, ap, ◌∙◌, ◌⊎◌, zero, suc, ◌<◌, inl, inr, Ok, IsTrue, subst, arith, append_assoc, append-nil, length-append, length-take}
-use Rattle.sz_head.specs.Parts.{Parts}
+use Rattle.sz_http.specs.Parts.{Parts}
 use Rattle.sz_http.specs.declared.fed.Fed.{Fed}
 use Rattle.sz_http.specs.declared.side.Side.TheVariants as side
 use Rattle.std.proofs.lemmas.Bool.{false≢true}
@@ -8,19 +8,19 @@ use Rattle.sz_http.proofs.Heads.{framed_begins}
 use Rattle.sz_http.proofs.Verdicts.{message_stands}
 use Rattle.sz_http.specs.Message.{BeginsWith}
 use Rattle.sz_http.specs.Reading.{IsWholeAtEnd, Took}
-use Rattle.sz_head.specs.Head.{HasNoHead}
-use Rattle.sz_head.specs.declared.kind.Kind.TheVariants as kind
+use Rattle.sz_http.specs.Head.{HasNoHead}
+use Rattle.sz_http.specs.declared.kind.Kind.TheVariants as kind
 use Rattle.sz_http.specs.declared.fault.HttpFault.{HttpFault}
 use Rattle.sz_http.specs.declared.fault.HttpFault.TheVariants as http
 use Rattle.sz_http.specs.Verdict.{done_with, refused, Verdict}
 use Rattle.sz_ask.specs.Coming.{HasCome}
 use Rattle.sz_ask.specs.Reply.{HasReply, HasStatus, of_http, TellsFault}
-use Rattle.sz_ask.specs.declared.asking.TheConstants.{MOST_REPLY_BYTES}
+use Rattle.sz_ask.specs.Limits.{most_reply_bytes}
 use Rattle.sz_ask.specs.declared.incoming.Incoming.{Incoming}
 
 -- the end of the connection makes it whole
 pub came_to_end : (old new : Incoming) (bytes : List ℕ)
-    → IsWholeAtEnd side.Reply MOST_REPLY_BYTES bytes old.body new.reading → new.body ≡ old.body → HasCome new bytes true
+    → IsWholeAtEnd side.Reply most_reply_bytes bytes old.body new.reading → new.body ≡ old.body → HasCome new bytes true
 came_to_end old new bytes whole body = record {
   reply = bytes;
   more = [];
@@ -33,7 +33,7 @@ came_to_end old new bytes whole body = record {
 
 -- a front of a piece made it whole
 pub came_whole : (old new : Incoming) (bytes piece more : List ℕ) (fed : Fed)
-    → Took side.Reply MOST_REPLY_BYTES bytes old.body piece new.reading fed → fed.done ≡ true
+    → Took side.Reply most_reply_bytes bytes old.body piece new.reading fed → fed.done ≡ true
     → new.body ≡ old.body ++ fed.body.now → HasCome new ((bytes ++ take fed.used piece) ++ more) false
 came_whole old new bytes piece more fed took done body =
     let whole = took.done done in
@@ -59,7 +59,7 @@ moved (suc used) size done moves some going = omega arith
 
 -- a refusal by the message's own rules is told
 pub tells_http : (bytes : List ℕ) (closed : Bool) (cause : HttpFault)
-    → Verdict side.Reply MOST_REPLY_BYTES bytes closed (refused cause) → TellsFault bytes closed (of_http cause)
+    → Verdict side.Reply most_reply_bytes bytes closed (refused cause) → TellsFault bytes closed (of_http cause)
 tells_http bytes closed http.BadHead is = inl (http.BadHead, is, refl)
 tells_http bytes closed http.BadChunk is = inl (http.BadChunk, is, refl)
 tells_http bytes closed (http.TooLarge limit) is = inl (http.TooLarge limit, is, refl)
@@ -87,7 +87,7 @@ pub has_head : (bytes : List ℕ) (closed : Bool) (incoming : Incoming) (come : 
     → HasNoHead kind.Reply come.reply → ⊥
 has_head bytes closed incoming come none =
     let message = come.verdict in
-    framed_begins side.Reply MOST_REPLY_BYTES come.reply (Ok message.framing) come.head message.after message.framed none
+    framed_begins side.Reply most_reply_bytes come.reply (Ok message.framing) come.head message.after message.framed none
 
 pub has_reply : (bytes : List ℕ) (closed : Bool) (incoming : Incoming) (status : ℕ) → HasCome incoming bytes closed
     → HasStatus bytes status → HasReply bytes closed status incoming.body
@@ -101,7 +101,7 @@ has_reply bytes true incoming status come is =
         come.head,
         length come.reply,
         subst (λ (t : List ℕ).
-            Verdict side.Reply MOST_REPLY_BYTES t true (done_with come.head incoming.body (length come.reply))) same come.verdict,
+            Verdict side.Reply most_reply_bytes t true (done_with come.head incoming.body (length come.reply))) same come.verdict,
       );
     }
 has_reply bytes false incoming status come is = record {
@@ -109,7 +109,7 @@ has_reply bytes false incoming status come is = record {
   whole = (
     come.head,
     length come.reply,
-    rw come.bytes_are (message_stands side.Reply MOST_REPLY_BYTES come.reply come.more false
+    rw come.bytes_are (message_stands side.Reply most_reply_bytes come.reply come.more false
         come.head incoming.body (length come.reply) come.verdict),
   );
 }

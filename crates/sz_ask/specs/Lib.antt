@@ -1,3 +1,4 @@
+pub mod Limits
 pub mod Reply
 pub mod Asked
 pub mod Coming

@@ -1,7 +1,7 @@
 -- What the bytes of a server's reply tell: the evidence in it, or why it gives none.
 use Rattle.std.specs.Prelude.{◌≡◌, ◌⊎◌, ℕ, Bool, List}
 use Rattle.sz_base.specs.declared.evidence.Evidence.{Evidence}
-use Rattle.sz_head.specs.Parts.{Parts}
+use Rattle.sz_http.specs.Parts.{Parts}
 use Rattle.sz_http.specs.declared.fault.HttpFault.{HttpFault}
 use Rattle.sz_http.specs.declared.fault.HttpFault.TheVariants as http
 use Rattle.sz_http.specs.declared.side.Side.TheVariants as side
@@ -10,7 +10,7 @@ use Rattle.sz_http.specs.Verdict.{done_with, refused, Verdict}
 use Rattle.sz_rest.specs.Reply.{FitsLimits, IsReplyFault, ReplyOf}
 use Rattle.sz_rest.specs.declared.fault.RestFault.{RestFault}
 use Rattle.sz_rest.specs.declared.fault.RestFault.TheVariants as rest
-use Rattle.sz_ask.specs.declared.asking.TheConstants.{MOST_REPLY_BYTES}
+use Rattle.sz_ask.specs.Limits.{most_reply_bytes}
 use Rattle.sz_ask.specs.declared.fault.ServerFault.{ServerFault}
 use Rattle.sz_ask.specs.declared.fault.ServerFault.TheVariants as server
 
@@ -37,7 +37,7 @@ HasStatus bytes status =
 pub record HasReply (bytes : List ℕ) (closed : Bool) (status : ℕ) (body : List ℕ) : Type 0 where
   pub status_is : HasStatus bytes status
   pub whole : (head : Parts) × (used : ℕ)
-      × Verdict side.Reply MOST_REPLY_BYTES bytes closed (done_with head body used)
+      × Verdict side.Reply most_reply_bytes bytes closed (done_with head body used)
 
 -- they are a reply with this evidence
 abbrev pub TellsEvidence : List ℕ → Bool → Evidence → Type 0
@@ -47,7 +47,7 @@ TellsEvidence bytes closed evidence =
 -- no message has such bytes at its front
 abbrev pub IsNoMessage : List ℕ → Bool → ServerFault → Type 0
 IsNoMessage bytes closed fault = (cause : HttpFault)
-    × Verdict side.Reply MOST_REPLY_BYTES bytes closed (refused cause) × (fault ≡ of_http cause)
+    × Verdict side.Reply most_reply_bytes bytes closed (refused cause) × (fault ≡ of_http cause)
 
 -- they are a reply with this fault
 abbrev pub IsReplyWith : List ℕ → Bool → ServerFault → Type 0

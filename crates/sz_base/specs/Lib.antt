@@ -7,3 +7,4 @@ pub mod Host
 pub mod Target
 pub mod Encoding
 pub mod Identity
+pub mod Evidence

@@ -5,6 +5,9 @@ ghost use Rattle.std.specs.Prelude.{◌≡◌, IfOk};
 use crate::{Bytes, OutOfMemory};
 use std::alloc::Global;
 
+/// The most bytes of an artifact.
+pub const MOST_ARTIFACT_BYTES: u64 = 1_048_576;
+
 /// The artifacts that a source hands to a device (RFC 8572, section 3), each as its bytes.
 #[derive(Debug, Drop)]
 pub struct Evidence {

@@ -7,11 +7,14 @@ ghost use Rattle.sz_base.specs.Identity.{most_anchor_bytes};
 use crate::{Bytes, Certs, OutOfMemory, Serial, Text};
 use std::alloc::Global;
 
-const MOST_ANCHORS: usize = 8;
+/// The most certificates that a device trusts.
+pub const MOST_ANCHORS: usize = 8;
 
-const MOST_ANCHOR_BYTES: usize = 65_536;
+/// The most bytes of one of them.
+pub const MOST_ANCHOR_BYTES: usize = 65_536;
 
-const MOST_OS_BYTES: usize = 256;
+/// The most bytes of the name, and of the version, of its operating system.
+pub const MOST_OS_BYTES: usize = 256;
 
 /// What a device is made with: its serial number, the certificates that it trusts, and the name and the
 /// version of its operating system.

@@ -18,10 +18,10 @@ mod serial;
 mod target;
 
 pub use encodings::{base64_bytes, colon_hex};
-pub use evidence::Evidence;
+pub use evidence::{Evidence, MOST_ARTIFACT_BYTES};
 pub use fault::{BaseFault, Failed, OutOfMemory, PutFault};
 pub use host::Host;
-pub use identity::Identity;
+pub use identity::{Identity, MOST_ANCHOR_BYTES, MOST_ANCHORS, MOST_OS_BYTES};
 pub use image::{ImageFault, ImageFaults};
 pub use laws::{
     base64_reads_back, hosts_read_back, numbers_read_back, pairs_read_once, serials_read_back,
@@ -31,5 +31,5 @@ pub use line::LineKind;
 pub use list::{Bytes, Calls, Certs, Items, Messages, Numbers, Signatures, Text, Texts};
 pub use moment::{Moment, Seconds};
 pub use numbers::number;
-pub use serial::Serial;
+pub use serial::{MOST_SERIAL_BYTES, Serial};
 pub use target::{Target, Targets};

@@ -8,7 +8,8 @@ use crate::{BaseFault, OutOfMemory, Text};
 use std::alloc::Global;
 use std::marker::Model;
 
-const MOST_BYTES: usize = 64;
+/// The most bytes of a serial number.
+pub const MOST_SERIAL_BYTES: usize = 64;
 
 /// A device's serial number: 1 to 64 bytes of letters, digits, `-`, `_`, `.`, `:` and `+`, the first of
 /// them no point. Contracts see it as its bytes.
@@ -60,7 +61,7 @@ impl Serial {
 fn is_serial(text: &[u8]) -> bool
     ensures { IsTrue result ↔ IsSerial text.now }
 {
-    matches!(text.len(), 1..=MOST_BYTES)
+    matches!(text.len(), 1..=MOST_SERIAL_BYTES)
         && text[0] != b'.'
         && text.iter().all(|byte| is_serial_byte(*byte))
 }

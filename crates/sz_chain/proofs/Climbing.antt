@@ -6,6 +6,7 @@ use Rattle.sz_x509.specs.Certificate.{Certificate}
 use Rattle.sz_x509.specs.View.{view}
 use Rattle.sz_chain.specs.Chain.{AreIssuers, AreLinked, Chain, counts, IsAuthority, IsIssuedBy, IsValidAt, IsWithin, lowest, MaySign, most_certs, one_if}
 use Rattle.sz_chain.specs.Issuer.{anchor_of, Issuer, issuer_of}
+use Rattle.sz_chain.specs.Links.{IsAnchored, IsLink, Rises}
 use Rattle.sz_chain.specs.Places.{issuer_at, StandsAmong}
 use Rattle.sz_chain.specs.Search.{Arrives, Climbs, HasWay, Reaches}
 use Rattle.sz_chain.specs.Sets.{At, has}
@@ -13,6 +14,7 @@ use Rattle.sz_chain.specs.Ways.{AreNodes, IsChained, is_none, IsNodeOf, IsStep}
 use Rattle.sz_chain.specs.declared.node.Node.{Node}
 use Rattle.sz_chain.specs.declared.place.Place.{Place}
 use Rattle.sz_chain.specs.declared.set.PlaceSet.{PlaceSet}
+use Rattle.sz_chain.proofs.Anchored.{anchored_here, rises_on}
 use Rattle.sz_chain.proofs.Elements.{at_one, at_some, at_within}
 use Rattle.sz_chain.proofs.Rows.{begins, begun, comes_from, goes_on}
 use Rattle.sz_chain.proofs.Standing.{as_anchor, as_issuer}
@@ -38,14 +40,54 @@ module _ (crls : Option (List (List ℕ))) (when : ℤ) (signers : PlaceSet) (pl
   -- ---- from a chain to a way
 
   -- a certificate is issued by what stands at a place, so its node has that place among its issuers
-  step_up : (lower upper : Place) (issuer : Issuer) → lower.is_anchor ≡ false → IsValidAt when (view lower.cert) → issuer_at upper ≡ issuer →
-      (upper.is_anchor ≡ true) ⊎ IsAuthority when (view upper.cert) → IsIssuedBy crls when issuer (view lower.cert) → IsStep crls when lower upper
-  step_up lower upper issuer kind valid same may is =
-      let by : IsIssuedBy crls when (issuer_at upper) (view lower.cert) =
-      subst (λ (i : Issuer). IsIssuedBy crls when i (view lower.cert)) (sym same) is in record {
-        link = record { no_anchor = kind; valid = valid; names = record { named = by.named; may_issue = may }; signed = by.signed };
-        cleared = by.cleared;
-      }
+  by_upper : (lower upper : Place) (issuer : Issuer) → issuer_at upper ≡ issuer → IsIssuedBy crls when issuer (view lower.cert) →
+      IsIssuedBy crls when (issuer_at upper) (view lower.cert)
+  by_upper lower upper issuer same is = subst (λ (i : Issuer). IsIssuedBy crls when i (view lower.cert)) (sym same) is
+
+  link_up : (lower upper : Place) (issuer : Issuer) → lower.is_anchor ≡ false → IsValidAt when (view lower.cert) → issuer_at upper ≡ issuer →
+      (upper.is_anchor ≡ true) ⊎ IsAuthority when (view upper.cert) → IsIssuedBy crls when issuer (view lower.cert) → IsLink when lower upper
+  link_up lower upper issuer kind valid same may is =
+      let by = by_upper lower upper issuer same is in
+      record { no_anchor = kind; valid = valid; names = record { named = by.named; may_issue = may }; signed = by.signed }
+
+  step_up : (lower : Place) (above : ℕ) (upper : Place) (issuer : Issuer) → lower.is_anchor ≡ false → IsValidAt when (view lower.cert) →
+      issuer_at upper ≡ issuer → (upper.is_anchor ≡ true) ⊎ IsAuthority when (view upper.cert) → IsIssuedBy crls when issuer (view lower.cert) →
+      IsAnchored when places most_certs above → IsStep crls when places lower above upper
+  step_up lower above upper issuer kind valid same may is anchored = record {
+    link = link_up lower upper issuer kind valid same may is;
+    anchored = anchored;
+    cleared = (by_upper lower upper issuer same is).cleared;
+  }
+
+  -- so many links lead from a certificate of a chain up to its anchor
+  rises : (anchor : Certificate) → StandsAmong places true anchor → (above : List Certificate) (k at : ℕ) (place : Place) (cert : Certificate) →
+      At places at place → place.is_anchor ≡ false → IsValidAt when (view place.cert) → view place.cert ≡ cert →
+      AreLinked crls when (cert ∷ above) anchor → AreIssuers when k above → AllByRecursion (StandsAmong places false) above →
+      Rises when places (suc (length above)) at
+  rises anchor stands [] k at place cert here kind valid is links issuers among =
+      let issued = subst (λ (c : Certificate). IsIssuedBy crls when (anchor_of anchor) c) (sym is) links.0 in
+      rises_on when places 0 at (record {
+        cert = place;
+        above = stands.at;
+        issuer = stands.place;
+        is_at = here;
+        is_above = stands.is_at;
+        link = link_up place stands.place (anchor_of anchor) kind valid (as_anchor stands.place anchor stands.kind stands.is_cert) (inl stands.kind) issued;
+        up = anchored_here when places stands.at (record { anchor = stands.place; is_at = stands.is_at; is_anchor = stands.kind });
+      })
+  rises anchor stands (issuer ∷ above) k at place cert here kind valid is links issuers among =
+      let here' = among.0 in
+      let issued = subst (λ (c : Certificate). IsIssuedBy crls when (issuer_of issuer) c) (sym is) links.0 in
+      let may = subst (λ (c : Certificate). IsAuthority when c) (sym here'.is_cert) issuers.0 in
+      rises_on when places (suc (length above)) at (record {
+        cert = place;
+        above = here'.at;
+        issuer = here'.place;
+        is_at = here;
+        is_above = here'.is_at;
+        link = link_up place here'.place (issuer_of issuer) kind valid (as_issuer here'.place issuer here'.kind here'.is_cert) (inr may) issued;
+        up = rises anchor stands above _ here'.at here'.place issuer here'.is_at here'.kind may.valid here'.is_cert links.1 issuers.2 among.1;
+      })
 
   no_limit : (place : Place) (limit : Option ℕ) (k : ℕ) → place.is_anchor ≡ true →
       limit ≡ cond place.is_anchor None (view place.cert).restrictions.path_len → IsWithin limit k
@@ -61,7 +103,7 @@ module _ (crls : Option (List (List ℕ))) (when : ℤ) (signers : PlaceSet) (pl
 
   -- over one issuer more
   on : (n before below at : ℕ) (lower upper : Place) (low high : Node) (cert : Certificate) → Pair below lower low → Pair at upper high →
-      Reaches nodes n before below → IsStep crls when lower upper → IsWithin high.limit before →
+      Reaches nodes n before below → IsStep crls when places lower at upper → IsWithin high.limit before →
       Reaches nodes (suc n) (before + one_if high.is_counted) at
   on n before below at lower upper low high cert l h reached step within = goes_on nodes n _ at (record {
     before = before;
@@ -81,12 +123,15 @@ module _ (crls : Option (List (List ℕ))) (when : ℤ) (signers : PlaceSet) (pl
   climb : (anchor : Certificate) → StandsAmong places true anchor → (above : List Certificate) (n k at : ℕ) (place : Place) (cert : Certificate) →
       At places at place → place.is_anchor ≡ false → IsValidAt when (view place.cert) → view place.cert ≡ cert → Reaches nodes n k at →
       AreLinked crls when (cert ∷ above) anchor →
-      AreIssuers when k above → AllByRecursion (StandsAmong places false) above → (m : ℕ) × (m ≡ n + 1 + length above) × Arrives nodes m
-  climb anchor stands [] n k at place cert here kind valid is reached links issuers among =
+      AreIssuers when k above → AllByRecursion (StandsAmong places false) above → n + 1 + length above ≤ most_certs →
+      (m : ℕ) × (m ≡ n + 1 + length above) × Arrives nodes m
+  climb anchor stands [] n k at place cert here kind valid is reached links issuers among few =
       let low = node_at at place here in
       let high = node_at stands.at stands.place stands.is_at in
       let issued = subst (λ (c : Certificate). IsIssuedBy crls when (anchor_of anchor) c) (sym is) links.0 in
-      let step = step_up place stands.place (anchor_of anchor) kind valid (as_anchor stands.place anchor stands.kind stands.is_cert) (inl stands.kind) issued in
+      let top = anchored_here when places stands.at (record { anchor = stands.place; is_at = stands.is_at; is_anchor = stands.kind }) in
+      let step = step_up place stands.at stands.place (anchor_of anchor) kind valid (as_anchor stands.place anchor stands.kind stands.is_cert)
+      (inl stands.kind) issued (0, omega arith, top) in
       let within = no_limit stands.place high.0.limit k stands.kind high.1.is.limit in (
         suc n,
         omega arith,
@@ -99,20 +144,22 @@ module _ (crls : Option (List (List ℕ))) (when : ℤ) (signers : PlaceSet) (pl
           reached = on n k at stands.at place stands.place low.0 high.0 cert low.1 high.1 reached step within;
         },
       )
-  climb anchor stands (issuer ∷ above) n k at place cert here kind valid is reached links issuers among =
+  climb anchor stands (issuer ∷ above) n k at place cert here kind valid is reached links issuers among few =
       let here' = among.0 in
       let low = node_at at place here in
       let high = node_at here'.at here'.place here'.is_at in
       let issued = subst (λ (c : Certificate). IsIssuedBy crls when (issuer_of issuer) c) (sym is) links.0 in
       let may = subst (λ (c : Certificate). IsAuthority when c) (sym here'.is_cert) issuers.0 in
-      let step = step_up place here'.place (issuer_of issuer) kind valid (as_issuer here'.place issuer here'.kind here'.is_cert) (inr may) issued in
+      let up = rises anchor stands above _ here'.at here'.place issuer here'.is_at here'.kind may.valid here'.is_cert links.1 issuers.2 among.1 in
+      let step = step_up place here'.at here'.place (issuer_of issuer) kind valid (as_issuer here'.place issuer here'.kind here'.is_cert) (inr may) issued
+      (suc (length above), omega (arith, few), up) in
       let limit = has_limit here'.place issuer high.0.limit here'.kind here'.is_cert high.1.is.limit in
       let within = subst (λ (l : Option ℕ). IsWithin l k) (sym limit) issuers.1 in
       let counted : high.0.is_counted ≡ counts issuer = high.1.is.counted ∙ ap counts here'.is_cert in
       let reached' = on n k at here'.at place here'.place low.0 high.0 cert low.1 high.1 reached step within in
       let reached'' = subst (λ (b : Bool). Reaches nodes (suc n) (k + one_if b) here'.at) counted reached' in
       let rest = climb anchor stands above (suc n) (k + one_if (counts issuer)) here'.at here'.place issuer here'.is_at here'.kind may.valid here'.is_cert
-      reached'' links.1 issuers.2 among.1 in
+      reached'' links.1 issuers.2 among.1 (omega (arith, few)) in
       (rest.0, omega (arith, rest.1), rest.2)
 
   start_at : (at : ℕ) (place : Place) (node : Node) → Pair at place node → has signers at ≡ true → MaySign when (view place.cert) →
@@ -145,7 +192,7 @@ module _ (crls : Option (List (List ℕ))) (when : ℤ) (signers : PlaceSet) (pl
       let low = node_at at signer here in
       let signs = subst (λ (c : Certificate). MaySign when c) (sym is) chain.signs in
       let begun = start_at at signer low.0 low.1 in_set signs in
-      let rest = climb anchor stands above 0 0 at signer cert here kind signs.valid is begun chain.links chain.issuers among.1 in
+      let rest = climb anchor stands above 0 0 at signer cert here kind signs.valid is begun chain.links chain.issuers among.1 (omega (arith, chain.few)) in
       (rest.0, omega (arith, rest.1, chain.few), rest.2)
 
   pub way_from_chain : IsChained crls when signers places → HasWay nodes
@@ -155,8 +202,9 @@ module _ (crls : Option (List (List ℕ))) (when : ℤ) (signers : PlaceSet) (pl
   -- ---- from a way to a chain
 
   -- what a step says, over the certificates
-  issued_by : (lower upper : Place) (issuer : Issuer) → issuer_at upper ≡ issuer → IsStep crls when lower upper → IsIssuedBy crls when issuer (view lower.cert)
-  issued_by lower upper issuer same step =
+  issued_by : (lower : Place) (above : ℕ) (upper : Place) (issuer : Issuer) → issuer_at upper ≡ issuer → IsStep crls when places lower above upper →
+      IsIssuedBy crls when issuer (view lower.cert)
+  issued_by lower above upper issuer same step =
       subst (λ (i : Issuer). IsIssuedBy crls when i (view lower.cert)) same (record {
         named = step.link.names.named;
         signed = step.link.signed;
@@ -173,7 +221,8 @@ module _ (crls : Option (List (List ℕ))) (when : ℤ) (signers : PlaceSet) (pl
     place : Place
     here : At places at place
     kind : place.is_anchor ≡ false
-    step : IsStep crls when place upper
+    above : ℕ
+    step : IsStep crls when places place above upper
     reached : Reaches nodes n before at
     within : IsWithin high.limit before
 
@@ -185,7 +234,7 @@ module _ (crls : Option (List (List ℕ))) (when : ℤ) (signers : PlaceSet) (pl
       let same : from.upper ≡ node = at_one nodes at from.upper node from.is_upper p.is_node in
       let climbs = subst (λ (x : Node). Climbs from.lower at x from.before k) same from.climbs in
       let told = (low.1.is.issuers at).0 climbs.issued in
-      let step = subst (λ (x : Place). IsStep crls when low.0 x) (at_one places at told.0 place told.1 p.is_place) told.2 in (
+      let step = subst (λ (x : Place). IsStep crls when places low.0 at x) (at_one places at told.0 place told.1 p.is_place) told.2 in (
         from.before,
         climbs.counted,
         record {
@@ -193,6 +242,7 @@ module _ (crls : Option (List (List ℕ))) (when : ℤ) (signers : PlaceSet) (pl
           place = low.0;
           here = low.1.is_place;
           kind = step.link.no_anchor;
+          above = at;
           step = step;
           reached = from.reached;
           within = climbs.within;
@@ -229,7 +279,7 @@ module _ (crls : Option (List (List ℕ))) (when : ℤ) (signers : PlaceSet) (pl
       let from = below_of n k at place node.0 node.1 reached in
       let low = from.2 in
       let cert = view place.cert in
-      let issued = issued_by low.place place (issuer_of cert) (as_issuer place cert kind refl) low.step in
+      let issued = issued_by low.place low.above place (issuer_of cert) (as_issuer place cert kind refl) low.step in
       let limit = has_limit place cert node.0.limit kind refl node.1.is.limit in
       let within = subst (λ (l : Option ℕ). IsWithin l from.0) limit low.within in
       let counted : k ≡ from.0 + one_if (counts cert) = from.1 ∙ ap (λ (b : Bool). from.0 + one_if b) node.1.is.counted in
@@ -264,7 +314,7 @@ module _ (crls : Option (List (List ℕ))) (when : ℤ) (signers : PlaceSet) (pl
       let from = below_of n way.count way.at high.0 way.anchor high.1 way.reached in
       let low = from.2 in
       let anchor = view high.0.cert in
-      let issued = issued_by low.place high.0 (anchor_of anchor) (as_anchor high.0 anchor kind refl) low.step in
+      let issued = issued_by low.place low.above high.0 (anchor_of anchor) (as_anchor high.0 anchor kind refl) low.step in
       unwind anchor (record { at = way.at; place = high.0; is_at = high.1.is_place; kind = kind; is_cert = refl }) n from.0 low.at low.place []
       low.here low.kind low.reached (issued, tt) tt tt (omega arith)
 

@@ -1,9 +1,9 @@
 -- Sets of places that grow with a loop over a list.
-use Rattle.std.proofs.Common.{◌≡◌, ◌⊎◌, ◌||◌, ◌==◌, ◌+◌, ℕ, false, true≢false, List, length, sym, ◌∙◌, inl, inr, arith, subst, eqb-true, eq-eqb}
+use Rattle.std.proofs.Common.{◌≡◌, ◌⊎◌, ◌||◌, ◌==◌, ◌+◌, ◌<◌, ℕ, false, true≢false, List, length, get_or, sym, ◌∙◌, inl, inr, arith, subst, eqb-true, eq-eqb}
 use Rattle.std.proofs.lemmas.Bool.{cases_eq, or_cases, or_left, or_right}
 use Rattle.sz_chain.specs.Sets.{AreAt, AreFirst, At, has}
 use Rattle.sz_chain.specs.declared.set.PlaceSet.{PlaceSet}
-use Rattle.sz_chain.proofs.Elements.{at_one, at_within}
+use Rattle.sz_chain.proofs.Elements.{at_default, at_one, at_some, at_within}
 
 module _ {A : Type 0} (xs : List A) (Is : ℕ → A → Type 0) where
   pub first_none : (set : PlaceSet) → ((place : ℕ) → has set place ≡ false) → AreFirst 0 xs Is set
@@ -40,11 +40,32 @@ module _ {A : Type 0} (xs : List A) (Is : ℕ → A → Type 0) where
     ],
   )
 
+  -- the same of the element at a place of a loop
+  pub first_in_loop : (n : ℕ) (d : A) (set new next : PlaceSet) → n < length xs → AreFirst n xs Is set → Is n (get_or xs n d) →
+      ((place : ℕ) → has new place ≡ (place == n || has set place)) → next ≡ new → AreFirst (n + 1) xs Is next
+  first_in_loop n d set new next within are is put e =
+      subst (λ (s : PlaceSet). AreFirst (n + 1) xs Is s) (sym e) (first_in n (get_or xs n d) set new are (at_default xs n d within) is put)
+
+  pub first_out_loop : (n : ℕ) (d : A) (set next : PlaceSet) → n < length xs → AreFirst n xs Is set → (Is n (get_or xs n d) → ⊥) → next ≡ set →
+      AreFirst (n + 1) xs Is next
+  first_out_loop n d set next within are isnt e =
+      subst (λ (s : PlaceSet). AreFirst (n + 1) xs Is s) (sym e) (first_out n (get_or xs n d) set are (at_default xs n d within) isnt)
+
   pub first_all : (set : PlaceSet) → AreFirst (length xs) xs Is set → AreAt xs Is set
   first_all set are place = (
     λ e. ((are place).0 e).1,
     λ told. (are place).1 (at_within xs place told.0 told.1, told),
   )
+
+  -- no element is so at the place
+  pub first_out_any : (n : ℕ) (set next : PlaceSet) → n < length xs → AreFirst n xs Is set → ((x : A) → Is n x → ⊥) → next ≡ set →
+      AreFirst (n + 1) xs Is next
+  first_out_any n set next within are isnt e =
+      let some = at_some xs n within in
+      subst (λ (s : PlaceSet). AreFirst (n + 1) xs Is s) (sym e) (first_out n some.0 set are some.1 (isnt some.0))
+
+  pub first_all_loop : (n : ℕ) (set : PlaceSet) → n ≡ length xs → AreFirst n xs Is set → AreAt xs Is set
+  first_all_loop n set e are = first_all set (subst (λ (k : ℕ). AreFirst k xs Is set) e are)
 
 -- what is so where something else is so
 pub same_at : {A : Type 0} (xs : List A) (Is Other : ℕ → A → Type 0) (set : PlaceSet) →

@@ -8,7 +8,7 @@ use Rattle.sz_x509.specs.declared.crl.Crl.{Crl}
 use Rattle.sz_chain.specs.Chain.{counts, IsValidAt, MaySign}
 use Rattle.sz_chain.specs.Cleared.{IsCurrent, IsNotOver, IsRevokedBy}
 use Rattle.sz_chain.specs.Issuer.{crl_sign, MayUse}
-use Rattle.sz_chain.specs.Links.{AreLinks, IsLink, NamesIssuer}
+use Rattle.sz_chain.specs.Links.{AreInOne, AreLinks, IsLink, NamesIssuer}
 use Rattle.sz_chain.specs.Lists.{AreLists, AreRead, ClearAt}
 use Rattle.sz_chain.specs.Places.{issuer_at}
 use Rattle.sz_chain.specs.Sets.{AreAt, At, has}
@@ -57,42 +57,35 @@ ok_along key other tbs more signature last e f g ok =
 
 -- ---- links
 
-pub links_are : (when : ℤ) (places : List Place) (cert : Place) (named set : PlaceSet) → cert.is_anchor ≡ false →
-    IsValidAt when (view cert.cert) → AreAt places (λ _ issuer. NamesIssuer when cert issuer) named →
+pub links_are : (when : ℤ) (places : List Place) (cert : Place) (fresh named set : PlaceSet) → cert.is_anchor ≡ false →
+    IsValidAt when (view cert.cert) → AreAt places (λ above issuer. NamesIssuer when cert issuer × (has fresh above ≡ true)) named →
     AreAt places (λ at issuer. (has named at ≡ true) × HssOk issuer.cert.key.now cert.cert.tbs.now cert.cert.signature.now) set →
-    AreAt places (λ _. IsLink when cert) set
-links_are when places cert named set kind valid names verified place = (
+    AreAt places (λ above issuer. IsLink when cert issuer × (has fresh above ≡ true)) set
+links_are when places cert fresh named set kind valid names verified place = (
   λ e.
       let told = (verified place).0 e in
       let name = (names place).0 told.2.0 in (
         told.0,
         told.1,
-        record {
-          no_anchor = kind;
-          valid = valid;
-          names = subst (λ (p : Place). NamesIssuer when cert p) (at_one places place name.0 told.0 name.1 told.1) name.2;
-          signed = ok_along _ _ _ _ _ _ (sym (key_of told.0)) (sym (tbs_of cert)) (sym (signature_of cert)) told.2.1;
-        },
+        (
+          record {
+            no_anchor = kind;
+            valid = valid;
+            names = subst (λ (p : Place). NamesIssuer when cert p) (at_one places place name.0 told.0 name.1 told.1) name.2.0;
+            signed = ok_along _ _ _ _ _ _ (sym (key_of told.0)) (sym (tbs_of cert)) (sym (signature_of cert)) told.2.1;
+          },
+          name.2.1,
+        ),
       ),
   λ link. (verified place).1 (
     link.0,
     link.1,
     (
-      (names place).1 (link.0, link.1, link.2.names),
-      ok_along _ _ _ _ _ _ (key_of link.0) (tbs_of cert) (signature_of cert) link.2.signed,
+      (names place).1 (link.0, link.1, (link.2.0.names, link.2.1)),
+      ok_along _ _ _ _ _ _ (key_of link.0) (tbs_of cert) (signature_of cert) link.2.0.signed,
     ),
   ),
 )
-
-pub links_more : (when : ℤ) (places : List Place) (links new : List PlaceSet) (n : ℕ) (d : Place) (set : PlaceSet) → n < length places →
-    length links ≡ n → AreAt places (λ _. IsLink when (get_or places n d)) set → new ≡ links ++ set ∷ [] →
-    ((at : ℕ) (issuers : PlaceSet) → At links at issuers → (cert : Place) → At places at cert → AreAt places (λ _. IsLink when cert) issuers) →
-    (at : ℕ) (issuers : PlaceSet) → At new at issuers → (cert : Place) → At places at cert → AreAt places (λ _. IsLink when cert) issuers
-links_more when places links new n d set within len are e each =
-    grows (λ at issuers. (cert : Place) → At places at cert → AreAt places (λ _. IsLink when cert) issuers) links new n set e len each
-    (λ cert here.
-    let same = at_one places n (get_or places n d) cert (at_default places n d within) here in
-    subst (λ (c : Place). AreAt places (λ _. IsLink when c) set) same are)
 
 -- ---- lists
 
@@ -100,40 +93,44 @@ links_more when places links new n d set within len are e each =
 abbrev pub IsCurrentAt : ℤ → RevocationList → Type 0
 IsCurrentAt when list = (list.this_update ≤ℤ when) × IsNotOver when list.next_update
 
-pub list_is : (when : ℤ) (places : List Place) (list : Crl) (named set : PlaceSet) → IsCurrentAt when (list_view list) →
-    AreAt places (λ _ place. (list.issuer.now ≡ (issuer_at place).name) × MayUse crl_sign (issuer_at place).usage) named →
+pub list_is : (when : ℤ) (places : List Place) (list : Crl) (wanted named set : PlaceSet) → IsCurrentAt when (list_view list) →
+    AreAt places (λ at place. ((list.issuer.now ≡ (issuer_at place).name) × MayUse crl_sign (issuer_at place).usage) × (has wanted at ≡ true)) named →
     AreAt places (λ at place. (has named at ≡ true) × HssOk place.cert.key.now list.tbs.now list.signature.now) set →
-    AreAt places (λ _ place. IsCurrent when (issuer_at place) (list_view list)) set
-list_is when places list named set current names verified place = (
+    AreAt places (λ at place. IsCurrent when (issuer_at place) (list_view list) × (has wanted at ≡ true)) set
+list_is when places list wanted named set current names verified place = (
   λ e.
       let told = (verified place).0 e in
       let name = (names place).0 told.2.0 in
       let same : name.0 ≡ told.0 = at_one places place name.0 told.0 name.1 told.1 in
-      let name' = subst (λ (p : Place). (list.issuer.now ≡ (issuer_at p).name) × MayUse crl_sign (issuer_at p).usage) same name.2 in (
+      let name' = subst (λ (p : Place). (list.issuer.now ≡ (issuer_at p).name) × MayUse crl_sign (issuer_at p).usage) same name.2.0 in (
         told.0,
         told.1,
-        record {
-          named = list_issuer list ∙ name'.0;
-          usage = name'.1;
-          issued = current.0;
-          not_over = current.1;
-          signed = ok_along _ _ _ _ _ _ (sym (key_of told.0)) (sym (list_tbs list)) (sym (list_signature list)) told.2.1;
-        },
+        (
+          record {
+            named = list_issuer list ∙ name'.0;
+            usage = name'.1;
+            issued = current.0;
+            not_over = current.1;
+            signed = ok_along _ _ _ _ _ _ (sym (key_of told.0)) (sym (list_tbs list)) (sym (list_signature list)) told.2.1;
+          },
+          name.2.1,
+        ),
       ),
   λ is. (verified place).1 (
     is.0,
     is.1,
     (
-      (names place).1 (is.0, is.1, (sym (list_issuer list) ∙ is.2.named, is.2.usage)),
-      ok_along _ _ _ _ _ _ (key_of is.0) (list_tbs list) (list_signature list) is.2.signed,
+      (names place).1 (is.0, is.1, ((sym (list_issuer list) ∙ is.2.0.named, is.2.0.usage), is.2.1)),
+      ok_along _ _ _ _ _ _ (key_of is.0) (list_tbs list) (list_signature list) is.2.0.signed,
     ),
   ),
 )
 
-pub list_isnt : (when : ℤ) (places : List Place) (list : Crl) (set : PlaceSet) → (IsCurrentAt when (list_view list) → ⊥) →
-    ((place : ℕ) → has set place ≡ false) → AreAt places (λ _ place. IsCurrent when (issuer_at place) (list_view list)) set
-list_isnt when places list set isnt none place =
-    (λ e. absurd (true≢false (sym e ∙ none place)), λ is. absurd (isnt (is.2.issued, is.2.not_over)))
+pub list_isnt : (when : ℤ) (places : List Place) (list : Crl) (wanted set : PlaceSet) → (IsCurrentAt when (list_view list) → ⊥) →
+    ((place : ℕ) → has set place ≡ false) →
+    AreAt places (λ at place. IsCurrent when (issuer_at place) (list_view list) × (has wanted at ≡ true)) set
+list_isnt when places list wanted set isnt none place =
+    (λ e. absurd (true≢false (sym e ∙ none place)), λ is. absurd (isnt (is.2.0.issued, is.2.0.not_over)))
 
 -- ---- what a list has
 
@@ -197,17 +194,18 @@ cleared_more places links lists cleared new n d e set within as_many len are is 
     subst (λ (x : Place). AreClearing lists (length places) issuers x.cert.serial.now set) p
     (subst (λ (x : PlaceSet). AreClearing lists (length places) x (get_or places n d).cert.serial.now set) l are))
 
-pub cleared_steps : (when : ℤ) (crls : List (List ℕ)) (places : List Place) (links cleared : List PlaceSet) (lists : List CurrentList) →
-    length cleared ≡ length places → AreLinks when places links → AreLists when crls places lists →
+pub cleared_steps : (when : ℤ) (crls : List (List ℕ)) (places : List Place) (wanted : PlaceSet) (links cleared : List PlaceSet)
+    (lists : List CurrentList) → length cleared ≡ length places → AreLinks when places links → AreInOne links wanted →
+    AreLists when crls places wanted lists →
     ((at : ℕ) (c : PlaceSet) → At cleared at c → (cert : Place) (issuers : PlaceSet) → At places at cert → At links at issuers →
     AreClearing lists (length places) issuers cert.cert.serial.now c) →
     AreSteps (Some crls) when places cleared
-cleared_steps when crls places links cleared lists as_many linked are each = record {
+cleared_steps when crls places wanted links cleared lists as_many linked among are each = record {
   as_many = as_many;
   each = λ at cert c here there.
       let issuers = at_some links at (omega (arith, at_within places at cert here, linked.as_many)) in
-      clearing_steps when places crls lists cert issuers.0 c are (linked.each at cert issuers.0 here issuers.1)
-      (each at c there cert issuers.0 here issuers.1);
+      clearing_steps when places wanted crls lists cert issuers.0 c are (linked.each at cert issuers.0 here issuers.1)
+      (each at c there cert issuers.0 here issuers.1) (λ place issues. (among place).1 (at, issuers.0, issuers.1, issues));
 }
 
 -- ---- nodes
@@ -235,7 +233,7 @@ nodes_more when signers places steps nodes new n d e is_signer node within as_ma
     let there = at_default steps n e (omega (arith, as_many, within)) in
     let stepped = are.each n (get_or places n d) (get_or steps n e) (at_default places n d within) there in
     subst (λ (x : Place). IsNodeOf crls when signers places n x node) p (record {
-      issuers = subst (λ (s : PlaceSet). AreAt places (λ _. IsStep crls when (get_or places n d)) s) (sym made.issuers_are) stepped;
+      issuers = subst (λ (s : PlaceSet). AreAt places (IsStep crls when places (get_or places n d)) s) (sym made.issuers_are) stepped;
       limit = made.limit;
       counted = made.counted;
       is_anchor = made.kind;

@@ -9,6 +9,7 @@ pub mod Rows
 pub mod Verified
 pub mod Climbing
 pub mod Reading
+pub mod Anchored
 pub mod Issued
 pub mod Unlisted
 pub mod Refusals

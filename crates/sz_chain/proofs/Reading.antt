@@ -8,9 +8,10 @@ use Rattle.sz_x509.specs.View.{view}
 use Rattle.sz_chain.specs.Cleared.{IsCurrent}
 use Rattle.sz_chain.specs.Lists.{AreLists}
 use Rattle.sz_chain.specs.Places.{AreOf, ArePlaces, issuer_at}
-use Rattle.sz_chain.specs.Sets.{AreAt}
+use Rattle.sz_chain.specs.Sets.{AreAt, has}
 use Rattle.sz_chain.specs.declared.lists.CurrentList.{CurrentList}
 use Rattle.sz_chain.specs.declared.place.Place.{Place}
+use Rattle.sz_chain.specs.declared.set.PlaceSet.{PlaceSet}
 use Rattle.sz_chain.proofs.Standing.{both_of, none_more, one_more}
 use Rattle.sz_chain.proofs.Told.{no_list_more, one_list_more}
 
@@ -52,22 +53,22 @@ module _ (items : List (Bor (List ℕ))) (i : ℕ) (d : Bor (List ℕ)) (within 
 
   -- ---- lists
 
-  module _ (when : ℤ) (places : List Place) where
+  module _ (when : ℤ) (places : List Place) (wanted : PlaceSet) where
     pub list_one : (old new : List CurrentList) (told : CurrentList) → new ≡ old ++ told ∷ [] → CrlOf (get_or items i d).now (list_view told.list) →
         ((list : RevocationList) → CrlOf (get_or items i d).now list → list_view told.list ≡ list) →
-        AreAt places (λ _ place. IsCurrent when (issuer_at place) (list_view told.list)) told.issuers →
-        AreLists when (strings (take i items)) places old → AreLists when (strings (take (i + 1) items)) places new
+        AreAt places (λ at place. IsCurrent when (issuer_at place) (list_view told.list) × (has wanted at ≡ true)) told.issuers →
+        AreLists when (strings (take i items)) places wanted old → AreLists when (strings (take (i + 1) items)) places wanted new
     list_one old new told e is only issuers are =
-        subst (λ (l : List CurrentList). AreLists when (strings (take (i + 1) items)) places l) (sym e)
-        (subst (λ (s : List (List ℕ)). AreLists when s places (old ++ told ∷ [])) (sym more)
-        (one_list_more when places (strings (take i items)) (get_or items i d).now old told are is only issuers))
+        subst (λ (l : List CurrentList). AreLists when (strings (take (i + 1) items)) places wanted l) (sym e)
+        (subst (λ (s : List (List ℕ)). AreLists when s places wanted (old ++ told ∷ [])) (sym more)
+        (one_list_more when places wanted (strings (take i items)) (get_or items i d).now old told are is only issuers))
 
     pub list_none : (old new : List CurrentList) → new ≡ old → ((list : RevocationList) → CrlOf (get_or items i d).now list → ⊥) →
-        AreLists when (strings (take i items)) places old → AreLists when (strings (take (i + 1) items)) places new
+        AreLists when (strings (take i items)) places wanted old → AreLists when (strings (take (i + 1) items)) places wanted new
     list_none old new e none are =
-        subst (λ (l : List CurrentList). AreLists when (strings (take (i + 1) items)) places l) (sym e)
-        (subst (λ (s : List (List ℕ)). AreLists when s places old) (sym more)
-        (no_list_more when places (strings (take i items)) (get_or items i d).now old are none))
+        subst (λ (l : List CurrentList). AreLists when (strings (take (i + 1) items)) places wanted l) (sym e)
+        (subst (λ (s : List (List ℕ)). AreLists when s places wanted old) (sym more)
+        (no_list_more when places wanted (strings (take i items)) (get_or items i d).now old are none))
 
 -- all strings were read
 pub all_strings : (items : List (Bor (List ℕ))) (n : ℕ) (whole : List (List ℕ)) → strings items ≡ whole → length items ≤ n → strings (take n items) ≡ whole

@@ -7,11 +7,14 @@ use Rattle.sz_chain.specs.Places.{issuer_at}
 use Rattle.sz_chain.specs.Sets.{AreAt, At, has}
 use Rattle.sz_chain.specs.declared.lists.CurrentList.{CurrentList}
 use Rattle.sz_chain.specs.declared.place.Place.{Place}
+use Rattle.sz_chain.specs.declared.set.PlaceSet.{PlaceSet}
 
--- a list, and the places for which it is current
-pub record IsTold (when : ℤ) (crls : List (List ℕ)) (places : List Place) (told : CurrentList) : Type 0 where
+-- a list, and those of the wanted places for which it is current
+pub record IsTold (when : ℤ) (crls : List (List ℕ)) (places : List Place) (wanted : PlaceSet) (told : CurrentList)
+    : Type 0 where
   pub among : IsAmong crls (list_view told.list)
-  pub issuers : AreAt places (λ _ place. IsCurrent when (issuer_at place) (list_view told.list)) told.issuers
+  pub issuers : AreAt places
+      (λ at place. IsCurrent when (issuer_at place) (list_view told.list) × (has wanted at ≡ true)) told.issuers
 
 -- the list is one of these
 pub record IsOneOf (lists : List CurrentList) (list : RevocationList) : Type 0 where
@@ -21,8 +24,9 @@ pub record IsOneOf (lists : List CurrentList) (list : RevocationList) : Type 0 w
   pub is_list : list_view told.list ≡ list
 
 -- these are the lists among the strings
-pub record AreLists (when : ℤ) (crls : List (List ℕ)) (places : List Place) (lists : List CurrentList) : Type 0 where
-  pub each : (at : ℕ) (told : CurrentList) → At lists at told → IsTold when crls places told
+pub record AreLists (when : ℤ) (crls : List (List ℕ)) (places : List Place) (wanted : PlaceSet)
+    (lists : List CurrentList) : Type 0 where
+  pub each : (at : ℕ) (told : CurrentList) → At lists at told → IsTold when crls places wanted told
   pub all : (list : RevocationList) → IsAmong crls list → IsOneOf lists list
 
 -- each of the lists reads

@@ -3,9 +3,9 @@ use Rattle.std.specs.Prelude.{◌≡◌, ◌↔◌, ℕ, ℤ, Bool, true, false,
 use Rattle.std.specs.List.{AllByRecursion}
 use Rattle.sz_x509.specs.Certificate.{Certificate}
 use Rattle.sz_x509.specs.View.{view}
-use Rattle.sz_chain.specs.Chain.{Chain, counts, lowest, MaySign}
+use Rattle.sz_chain.specs.Chain.{Chain, counts, lowest, MaySign, most_certs}
 use Rattle.sz_chain.specs.Cleared.{Cleared}
-use Rattle.sz_chain.specs.Links.{IsLink}
+use Rattle.sz_chain.specs.Links.{IsAnchored, IsLink}
 use Rattle.sz_chain.specs.Places.{issuer_at, StandsAmong}
 use Rattle.sz_chain.specs.Sets.{AreAt, At, has}
 use Rattle.sz_chain.specs.declared.node.Node.{Node}
@@ -14,9 +14,11 @@ use Rattle.sz_chain.specs.declared.set.PlaceSet.{PlaceSet}
 use Rattle.sz_chain.specs.declared.way.NoChain.{NoChain}
 use Rattle.sz_chain.specs.declared.way.NoChain.TheVariants.{Path, Revoked}
 
--- the certificate is linked to this issuer, and cleared for it
-pub record IsStep (crls : Option (List (List ℕ))) (when : ℤ) (cert issuer : Place) : Type 0 where
+-- the certificate is linked to the issuer at this place, which is anchored, and cleared for it
+pub record IsStep (crls : Option (List (List ℕ))) (when : ℤ) (places : List Place) (cert : Place) (above : ℕ)
+    (issuer : Place) : Type 0 where
   pub link : IsLink when cert issuer
+  pub anchored : IsAnchored when places most_certs above
   pub cleared : Cleared crls when (issuer_at issuer) (view cert.cert)
 
 -- the issuers of each certificate that it is cleared for
@@ -24,12 +26,12 @@ pub record AreSteps (crls : Option (List (List ℕ))) (when : ℤ) (places : Lis
     : Type 0 where
   pub as_many : length steps ≡ length places
   pub each : (at : ℕ) (cert : Place) (issuers : PlaceSet) → At places at cert → At steps at issuers
-      → AreAt places (λ _. IsStep crls when cert) issuers
+      → AreAt places (IsStep crls when places cert) issuers
 
 -- the node is what the search has to know of the certificate at this place
 pub record IsNodeOf (crls : Option (List (List ℕ))) (when : ℤ) (signers : PlaceSet) (places : List Place) (at : ℕ)
     (place : Place) (node : Node) : Type 0 where
-  pub issuers : AreAt places (λ _. IsStep crls when place) node.issuers
+  pub issuers : AreAt places (IsStep crls when places place) node.issuers
   pub limit : node.limit ≡ (if place.is_anchor then None else (view place.cert).restrictions.path_len)
   pub counted : node.is_counted ≡ counts (view place.cert)
   pub is_anchor : node.is_anchor ≡ place.is_anchor

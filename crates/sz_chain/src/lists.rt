@@ -1,14 +1,14 @@
 //! Revocation lists that read, each with the issuers that it is current for.
 
-ghost use Rattle.std.specs.Prelude.{◌≡◌, ◌↔◌, ◌<◌, ◌≤◌, ◌≤ℤ◌, length, IsTrue};
+ghost use Rattle.std.specs.Prelude.{◌≡◌, ◌↔◌, ◌<◌, ◌≤◌, ◌≤ℤ◌, true, length, IsTrue};
 ghost use Rattle.sz_chain.specs.Cleared.{IsCurrent, IsNotOver};
 ghost use Rattle.sz_chain.specs.Issuer.{crl_sign, MayUse};
 ghost use Rattle.sz_chain.specs.Lists.{AreLists, AreRead, ClearAt};
 ghost use Rattle.sz_chain.specs.Places.{issuer_at};
-ghost use Rattle.sz_chain.specs.Sets.{AreAt};
+ghost use Rattle.sz_chain.specs.Sets.{AreAt, has};
 ghost use Rattle.sz_x509.specs.CrlView.{list_view};
 
-use crate::test_of::places_where;
+use crate::test_of::places_within;
 use crate::usage::{CRL_SIGN, is_not_over, may_use};
 use crate::verify::verifying;
 use crate::{CrlBag, MOST_CRLS, Place, PlaceSet, Test};
@@ -45,34 +45,36 @@ impl Default for CurrentList<'_> {
     }
 }
 
-/// The lists that read, each read once, and verified once under each key of an issuer that has its name.
+/// The lists that read, each read once, and verified once under each key of a wanted issuer that has its name.
 pub(crate) fn current_lists<'a>(
     crls: &CrlBag<'a>,
     places: &[Place<'_>],
+    wanted: PlaceSet,
     when: Seconds,
 ) -> CurrentLists<'a>
     requires { length places.now ≤ 64 }
-    ensures { AreLists when.0 crls.now places.now result.items }
+    ensures { AreLists when.0 crls.now places.now wanted result.items }
 {
     let mut lists = ArrayVec::new();
     for bytes in crls.as_slice() {
         if let Ok(list) = Crl::read(*bytes) {
-            let issuers = list_issuers(places, &list, when);
+            let issuers = list_issuers(places, wanted, &list, when);
             lists.push(CurrentList { list, issuers });
         }
     }
     lists
 }
 
-// The places for which the list is current.
-fn list_issuers(places: &[Place<'_>], list: &Crl<'_>, when: Seconds) -> PlaceSet
+// The wanted places for which the list is current.
+fn list_issuers(places: &[Place<'_>], wanted: PlaceSet, list: &Crl<'_>, when: Seconds) -> PlaceSet
     requires { length places.now ≤ 64 }
-    ensures { AreAt places.now (λ _ place. IsCurrent when.0 (issuer_at place) (list_view list.now)) result }
+    ensures { AreAt places.now
+        (λ at place. IsCurrent when.0 (issuer_at place) (list_view list.now) × (has wanted at ≡ true)) result }
 {
     if !is_current_at(list, when) {
         return PlaceSet::empty();
     }
-    let named = places_where(places, &IssuesList { list: *list });
+    let named = places_within(places, wanted, &IssuesList { list: *list });
     let covered = Covered {
         first: None,
         rest: list.tbs,

@@ -2,10 +2,11 @@
 
 ghost use Rattle.std.specs.Prelude.{◌≡◌, ◌↔◌, ◌≤◌, ◌<◌, ℕ, ℤ, true, List, length, if◌then◌else◌, Option, None, Some, IsTrue};
 ghost use Rattle.sz_chain.specs.Chain.{counts, MaySign};
-ghost use Rattle.sz_chain.specs.Links.{AreLinks};
+ghost use Rattle.sz_chain.specs.Links.{AreInOne, AreLinks};
 ghost use Rattle.sz_chain.specs.Lists.{AreLists, AreRead, ClearAt};
 ghost use Rattle.sz_chain.specs.Sets.{has};
 ghost use Rattle.sz_chain.specs.Ways.{AreNodes, AreSteps};
+ghost use Rattle.sz_chain.specs.declared.set.PlaceSet.{PlaceSet};
 ghost use Rattle.sz_x509.specs.View.{view};
 
 use crate::links::Links;
@@ -92,8 +93,9 @@ pub(crate) fn cleared_links(
     requires few { length places.now ≤ 64 }
     requires as_many { length links.now ≡ length places.now }
     requires read { AreRead lists.now }
-    ensures { (when : ℤ) (crls : List (List ℕ)) → AreLinks when places.now links.now
-        → AreLists when crls places.now lists.now → AreSteps (Some crls) when places.now result.items }
+    ensures { (when : ℤ) (crls : List (List ℕ)) (wanted : PlaceSet) → AreLinks when places.now links.now
+        → AreInOne links.now wanted → AreLists when crls places.now wanted lists.now
+        → AreSteps (Some crls) when places.now result.items }
 {
     let mut cleared = ArrayVec::new();
     for (at, place) in places.iter().enumerate() {

@@ -5,7 +5,7 @@ ghost use Rattle.std.specs.Option.{option_copied};
 ghost use Rattle.sz_chain.specs.Links.{AreLinks};
 ghost use Rattle.sz_chain.specs.Ways.{AreSteps, IsChained, IsUnchained};
 
-use crate::links::links_of;
+use crate::links::{in_one, links_of};
 use crate::lists::current_lists;
 use crate::node::{cleared_links, nodes_of};
 use crate::search::has_way;
@@ -58,7 +58,7 @@ fn is_chained(
     match crls {
         None => is_stepped(places, links, signers, when),
         Some(crls) => {
-            let lists = current_lists(crls, places, when);
+            let lists = current_lists(crls, places, in_one(links), when);
             let cleared = cleared_links(places, links, lists.as_slice());
             is_stepped(places, cleared.as_slice(), signers, when)
         }

@@ -6,7 +6,7 @@ use Rattle.std.proofs.lemmas.Bool.{and_from, and_parts, and_right, both_ways, ca
 use Rattle.std.proofs.lemmas.List.Folds.{list_any-append}
 use Rattle.sz_der.specs.Der.{AreOctets, Der}
 use Rattle.sz_der.specs.Spots.{after, AreEach, content_at, inside, is_at_end, is_next, Spot, spots_from, spots_upto, whole_at}
-use Rattle.sz_der.specs.declared.tag.TheConstants.{CONTEXT_CONSTRUCTED, OBJECT_IDENTIFIER, OCTET_STRING, SEQUENCE, SET}
+use Rattle.sz_der.specs.Tags.{context_constructed, object_identifier_tag, octet_string_tag, sequence_tag, set_tag}
 use Rattle.sz_der.proofs.Octets.{same_bytes}
 use Rattle.sz_der.proofs.Joined.{after_nothing, alone, and_then, Der_with, last}
 use Rattle.sz_der.proofs.Optional.{absent, after_next, after_other, BeginsWithout, found_next, next_stands, Optional, present}
@@ -16,7 +16,7 @@ use Rattle.sz_cms.specs.Message.{Attribute, HasAttributes, HasOne, IsAttribute, 
 use Rattle.sz_cms.specs.MessageFault.{attribute_fault, attributes_fault, each_after, has_both, is_known, known_fault, one_fault, stands_among, type_at, values_fault, values_spot}
 use Rattle.sz_cms.specs.Places.{attributes_at, known_at, value_among, value_at, value_in}
 use Rattle.sz_cms.specs.declared.fault.InfoKind.TheVariants as kinds
-use Rattle.sz_cms.specs.declared.identifier.TheConstants.{CONTENT_TYPE, MESSAGE_DIGEST}
+use Rattle.sz_cms.specs.Identifiers.{content_type_oid, message_digest_oid}
 use Rattle.sz_cms.proofs.Fields.{FieldClear}
 use Rattle.sz_cms.proofs.Lists.{are_written, clear_each, IsClear}
 
@@ -71,21 +71,21 @@ one_clear tag spot content whole item joined =
       here.content_is,
     )
 
-told_type : (spot : Spot) → values_fault CONTENT_TYPE spot ≡ None → one_fault OBJECT_IDENTIFIER spot ≡ None
+told_type : (spot : Spot) → values_fault content_type_oid spot ≡ None → one_fault object_identifier_tag spot ≡ None
 unfolding values_fault
 told_type spot n = n
 
-told_digest : (spot : Spot) → values_fault MESSAGE_DIGEST spot ≡ None → one_fault OCTET_STRING spot ≡ None
+told_digest : (spot : Spot) → values_fault message_digest_oid spot ≡ None → one_fault octet_string_tag spot ≡ None
 unfolding values_fault
 told_digest spot n = n
 
-values_fit : (type : List ℕ) (spot : Spot) → (bytes_eq type CONTENT_TYPE ≡ true → one_fault OBJECT_IDENTIFIER spot ≡ None) →
-    (bytes_eq type MESSAGE_DIGEST ≡ true → one_fault OCTET_STRING spot ≡ None) → values_fault type spot ≡ None
+values_fit : (type : List ℕ) (spot : Spot) → (bytes_eq type content_type_oid ≡ true → one_fault object_identifier_tag spot ≡ None) →
+    (bytes_eq type message_digest_oid ≡ true → one_fault octet_string_tag spot ≡ None) → values_fault type spot ≡ None
 unfolding values_fault
 values_fit type spot a b =
-    elim (cases_Bool (bytes_eq type CONTENT_TYPE)) [
+    elim (cases_Bool (bytes_eq type content_type_oid)) [
       | inl is ↦ rw is (a is)
-      | inr other ↦ elim (cases_Bool (bytes_eq type MESSAGE_DIGEST)) [
+      | inr other ↦ elim (cases_Bool (bytes_eq type message_digest_oid)) [
         | inl is ↦ rw (other, is) (b is)
         | inr neither ↦ rw (other, neither) refl
       ]
@@ -110,9 +110,9 @@ holds_here earlier spot fits n =
     let d = parts_of_none _ _ c.1 in
     let e = parts_of_none _ _ d.1 in
     let f = parts_of_none _ _ e.1 in
-    let sequence = found_part _ _ SEQUENCE spot fits a.0 in
-    let identifier = found_part _ _ OBJECT_IDENTIFIER (inside spot) sequence.inside b.0 in
-    let set = found_part _ _ SET (values_spot spot) identifier.after d.0 in
+    let sequence = found_part _ _ sequence_tag spot fits a.0 in
+    let identifier = found_part _ _ object_identifier_tag (inside spot) sequence.inside b.0 in
+    let set = found_part _ _ set_tag (values_spot spot) identifier.after d.0 in
     let only = and_then (whole_at (values_spot spot)) set.joined (nothing_left _ _ (after (values_spot spot)) f.0) in
     let known = is_known (type_at spot) && stands_among earlier (type_at spot) in
     record {
@@ -187,7 +187,7 @@ attribute_shows earlier spot fits n =
     let here = holds_here earlier spot fits n in
     (here.is_attribute, here.behind)
 
-known_from_none : (spot : Spot) → Found spot CONTEXT_CONSTRUCTED → known_fault spot ≡ None → HasAttributes CONTEXT_CONSTRUCTED (known_at spot)
+known_from_none : (spot : Spot) → Found spot context_constructed → known_fault spot ≡ None → HasAttributes context_constructed (known_at spot)
 unfolding known_fault known_at value_in has_both
 known_from_none spot here n =
     let list = inside spot in
@@ -200,22 +200,22 @@ known_from_none spot here n =
       each = map attribute_at (spots_from list);
       content = content_at spot;
       are_attributes = subst (λ (x : List ℕ). AreEach IsAttribute (map attribute_at (spots_from list)) x) (inside-left spot) written;
-      one_content_type = one_of CONTENT_TYPE OBJECT_IDENTIFIER refl told_type [] (spots_from list) each stand.0;
-      one_digest = one_of MESSAGE_DIGEST OCTET_STRING refl told_digest [] (spots_from list) each stand.1;
+      one_content_type = one_of content_type_oid object_identifier_tag refl told_type [] (spots_from list) each stand.0;
+      one_digest = one_of message_digest_oid octet_string_tag refl told_digest [] (spots_from list) each stand.1;
       is_set = here.is_item;
     }
 
 pub attributes_from_none : (spot : Spot) → AreOctets spot.left → attributes_fault spot ≡ None →
-    Optional spot CONTEXT_CONSTRUCTED (IsAttributesField (attributes_at spot))
+    Optional spot context_constructed (IsAttributesField (attributes_at spot))
 unfolding attributes_fault attributes_at known_at
 attributes_from_none spot fits n =
-    elim (cases_Bool (is_next CONTEXT_CONSTRUCTED spot)) [
+    elim (cases_Bool (is_next context_constructed spot)) [
       | inl next ↦
           let a = parts_of_none _ _ (rw next at n) in
           let b = parts_of_none _ _ a.1 in
-          let here = found_next _ CONTEXT_CONSTRUCTED spot fits next a.0 in
-          present spot CONTEXT_CONSTRUCTED (IsAttributesField (attributes_at spot)) here next (rw next (known_from_none spot here b.0, refl))
-      | inr other ↦ absent spot CONTEXT_CONSTRUCTED (IsAttributesField (attributes_at spot)) fits other (rw other refl)
+          let here = found_next _ context_constructed spot fits next a.0 in
+          present spot context_constructed (IsAttributesField (attributes_at spot)) here next (rw next (known_from_none spot here b.0, refl))
+      | inr other ↦ absent spot context_constructed (IsAttributesField (attributes_at spot)) fits other (rw other refl)
     ]
 
 -- ---- and the way back
@@ -228,8 +228,8 @@ RoomOf type tag earlier attributes =
     ⊎ ((stands_among earlier type ≡ false) × ((content : List ℕ) × HasOne type tag content attributes))
 
 record RoomFor (earlier : List Spot) (attributes : List Attribute) : Type 0 where
-  pub content_type : RoomOf CONTENT_TYPE OBJECT_IDENTIFIER earlier attributes
-  pub digest : RoomOf MESSAGE_DIGEST OCTET_STRING earlier attributes
+  pub content_type : RoomOf content_type_oid object_identifier_tag earlier attributes
+  pub digest : RoomOf message_digest_oid octet_string_tag earlier attributes
 
 -- the first attribute is of the type: none was before, none follows, and it has one value
 record First (type : List ℕ) (tag : ℕ) (earlier : List Spot) (values : List ℕ) (attributes : List Attribute) : Type 0 where
@@ -277,13 +277,13 @@ module _ (type : List ℕ) (tag : ℕ) (earlier : List Spot) (spot : Spot) (attr
       (first.before, (one_clear tag values first.content attribute.values first.is_value left).0)
 
 -- a type that has to stand once does not stand before
-is_fresh : (type : List ℕ) (earlier : List Spot) → (bytes_eq type CONTENT_TYPE ≡ true → stands_among earlier CONTENT_TYPE ≡ false) →
-    (bytes_eq type MESSAGE_DIGEST ≡ true → stands_among earlier MESSAGE_DIGEST ≡ false) → (is_known type && stands_among earlier type) ≡ false
+is_fresh : (type : List ℕ) (earlier : List Spot) → (bytes_eq type content_type_oid ≡ true → stands_among earlier content_type_oid ≡ false) →
+    (bytes_eq type message_digest_oid ≡ true → stands_among earlier message_digest_oid ≡ false) → (is_known type && stands_among earlier type) ≡ false
 is_fresh type earlier a b =
-    elim (cases_Bool (bytes_eq type CONTENT_TYPE)) [
-      | inl is ↦ and_right (is_known type) (stands_among earlier type) (ap (stands_among earlier) (same_bytes type CONTENT_TYPE is) ∙ a is)
-      | inr other ↦ elim (cases_Bool (bytes_eq type MESSAGE_DIGEST)) [
-        | inl is ↦ and_right (is_known type) (stands_among earlier type) (ap (stands_among earlier) (same_bytes type MESSAGE_DIGEST is) ∙ b is)
+    elim (cases_Bool (bytes_eq type content_type_oid)) [
+      | inl is ↦ and_right (is_known type) (stands_among earlier type) (ap (stands_among earlier) (same_bytes type content_type_oid is) ∙ a is)
+      | inr other ↦ elim (cases_Bool (bytes_eq type message_digest_oid)) [
+        | inl is ↦ and_right (is_known type) (stands_among earlier type) (ap (stands_among earlier) (same_bytes type message_digest_oid is) ∙ b is)
         | inr neither ↦ rw (other, neither) refl
       ]
     ]
@@ -297,20 +297,20 @@ attribute_clear : (earlier : List Spot) (spot : Spot) (attribute : Attribute) (a
     IsClear attribute_fault attribute_at RoomFor earlier spot attribute attributes rest
 unfolding attribute_fault
 attribute_clear earlier spot attribute attributes whole rest room is joined =
-    let sequence = stands spot SEQUENCE (concat (is.identifier ∷ is.set ∷ [])) whole rest is.is_sequence joined in
-    let identifier = stands (inside spot) OBJECT_IDENTIFIER attribute.type is.identifier (concat (is.set ∷ [])) is.is_identifier sequence.inside_is in
-    let set = stands (values_spot spot) SET attribute.values is.set [] is.is_set identifier.after_is in
+    let sequence = stands spot sequence_tag (concat (is.identifier ∷ is.set ∷ [])) whole rest is.is_sequence joined in
+    let identifier = stands (inside spot) object_identifier_tag attribute.type is.identifier (concat (is.set ∷ [])) is.is_identifier sequence.inside_is in
+    let set = stands (values_spot spot) set_tag attribute.values is.set [] is.is_set identifier.after_is in
     let values = inside (values_spot spot) in
-    let type = fits_here CONTENT_TYPE OBJECT_IDENTIFIER earlier spot attribute attributes identifier.content_is room.content_type values set.inside_is in
-    let digest = fits_here MESSAGE_DIGEST OCTET_STRING earlier spot attribute attributes identifier.content_is room.digest values set.inside_is in
+    let type = fits_here content_type_oid object_identifier_tag earlier spot attribute attributes identifier.content_is room.content_type values set.inside_is in
+    let digest = fits_here message_digest_oid octet_string_tag earlier spot attribute attributes identifier.content_is room.digest values set.inside_is in
     let known = is_known (type_at spot) && stands_among earlier (type_at spot) in
     let fresh = is_fresh (type_at spot) earlier (λ this. (type this).0) (λ this. (digest this).0) in
     record {
       no_fault = rw (
-        no_part-stands kinds.Der kinds.Shape spot SEQUENCE (concat (is.identifier ∷ is.set ∷ [])) whole rest sequence,
-        no_part-stands kinds.Der kinds.Shape (inside spot) OBJECT_IDENTIFIER attribute.type is.identifier (concat (is.set ∷ [])) identifier,
+        no_part-stands kinds.Der kinds.Shape spot sequence_tag (concat (is.identifier ∷ is.set ∷ [])) whole rest sequence,
+        no_part-stands kinds.Der kinds.Shape (inside spot) object_identifier_tag attribute.type is.identifier (concat (is.set ∷ [])) identifier,
         rule_from_holds (not known) kinds.Attribute (inside spot) (not_from_false known fresh),
-        no_part-stands kinds.Der kinds.Shape (values_spot spot) SET attribute.values is.set [] set,
+        no_part-stands kinds.Der kinds.Shape (values_spot spot) set_tag attribute.values is.set [] set,
         values_fit (type_at spot) values (λ this. (type this).1) (λ this. (digest this).1),
         end_from_nothing kinds.Der kinds.Shape (after (values_spot spot)) set.after_is,
       ) refl;
@@ -318,8 +318,8 @@ attribute_clear earlier spot attribute attributes whole rest room is joined =
       after_is = sequence.after_is;
       some = sequence.is_some;
       room = record {
-        content_type = room_next CONTENT_TYPE OBJECT_IDENTIFIER earlier spot attribute attributes identifier.content_is room.content_type;
-        digest = room_next MESSAGE_DIGEST OCTET_STRING earlier spot attribute attributes identifier.content_is room.digest;
+        content_type = room_next content_type_oid object_identifier_tag earlier spot attribute attributes identifier.content_is room.content_type;
+        digest = room_next message_digest_oid octet_string_tag earlier spot attribute attributes identifier.content_is room.digest;
       };
     }
 
@@ -344,39 +344,40 @@ same_known : (whole type digest : List ℕ) (attributes : SignedAttributes) → 
     digest ≡ attributes.digest → ◌≡◌ {A = SignedAttributes} (record { whole = whole; content_type = type; digest = digest }) attributes
 same_known whole type digest attributes a b c = rw (a, b, c) refl
 
-known_clear : (spot : Spot) (attributes : SignedAttributes) (has : HasAttributes CONTEXT_CONSTRUCTED attributes) (rest : List ℕ) →
-    Stands spot CONTEXT_CONSTRUCTED has.content attributes.whole rest → (known_fault spot ≡ None) × (known_at spot ≡ attributes)
+known_clear : (spot : Spot) (attributes : SignedAttributes) (has : HasAttributes context_constructed attributes) (rest : List ℕ) →
+    Stands spot context_constructed has.content attributes.whole rest → (known_fault spot ≡ None) × (known_at spot ≡ attributes)
 unfolding known_fault known_at value_in has_both
 known_clear spot attributes has rest here =
     let list = inside spot in
     let room : RoomFor [] has.each = record {
-      content_type = inr (nothing_stands CONTENT_TYPE, (attributes.content_type, has.one_content_type));
-      digest = inr (nothing_stands MESSAGE_DIGEST, (attributes.digest, has.one_digest));
+      content_type = inr (nothing_stands content_type_oid, (attributes.content_type, has.one_content_type));
+      digest = inr (nothing_stands message_digest_oid, (attributes.digest, has.one_digest));
     } in
     let each = clear_each attribute_fault IsAttribute attribute_at RoomFor attribute_clear (length list.left) [] list has.each (omega arith)
     (rw here.inside_is has.are_attributes) room in
-    let type = found_value CONTENT_TYPE OBJECT_IDENTIFIER (spots_from list) attributes.content_type (rw each.1 has.one_content_type) in
-    let digest = found_value MESSAGE_DIGEST OCTET_STRING (spots_from list) attributes.digest (rw each.1 has.one_digest) in (
+    let type = found_value content_type_oid object_identifier_tag (spots_from list) attributes.content_type (rw each.1 has.one_content_type) in
+    let digest = found_value message_digest_oid octet_string_tag (spots_from list) attributes.digest (rw each.1 has.one_digest) in (
       rw (each.0, type.0, digest.0) refl,
-      same_known (whole_at spot) (unwrap_or (value_among (spots_from list) CONTENT_TYPE) []) (unwrap_or (value_among (spots_from list) MESSAGE_DIGEST) [])
+      same_known (whole_at spot) (unwrap_or (value_among (spots_from list) content_type_oid) [])
+          (unwrap_or (value_among (spots_from list) message_digest_oid) [])
           attributes here.whole_is type.1 digest.1,
     )
 
 pub attributes_clear : (spot : Spot) (attributes : Option SignedAttributes) (piece rest : List ℕ) → IsAttributesField attributes piece →
-    BeginsWithout CONTEXT_CONSTRUCTED rest → spot.left ≡ piece ++ rest →
-    FieldClear (attributes_fault spot) (attributes_at spot) attributes spot CONTEXT_CONSTRUCTED rest
+    BeginsWithout context_constructed rest → spot.left ≡ piece ++ rest →
+    FieldClear (attributes_fault spot) (attributes_at spot) attributes spot context_constructed rest
 unfolding attributes_fault attributes_at
 attributes_clear spot None piece rest nothing without joined =
     let left = after_nothing piece joined nothing in
     let other = without spot left in
-    record { no_fault = rw other refl; value_is = rw other refl; after_is = rw (after_other CONTEXT_CONSTRUCTED spot other) left }
+    record { no_fault = rw other refl; value_is = rw other refl; after_is = rw (after_other context_constructed spot other) left }
 attributes_clear spot (Some attributes) piece rest is without joined =
     let whole = joined ∙ ap (λ (x : List ℕ). x ++ rest) is.1 in
-    let here = stands spot CONTEXT_CONSTRUCTED is.0.content attributes.whole rest is.0.is_set whole in
-    let next = next_stands spot CONTEXT_CONSTRUCTED is.0.content attributes.whole rest here in
+    let here = stands spot context_constructed is.0.content attributes.whole rest is.0.is_set whole in
+    let next = next_stands spot context_constructed is.0.content attributes.whole rest here in
     let known = known_clear spot attributes is.0 rest here in
     record {
       no_fault = rw (next, no_item-stands kinds.Der here, known.0) refl;
       value_is = rw next (ap (λ (x : SignedAttributes). Some x) known.1);
-      after_is = rw (after_next CONTEXT_CONSTRUCTED spot next) here.after_is;
+      after_is = rw (after_next context_constructed spot next) here.after_is;
     }

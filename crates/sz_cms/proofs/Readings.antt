@@ -9,7 +9,7 @@ use Rattle.arrayvec.specs.ArrayVec.{ArrayVec}
 use Rattle.sz_der.specs.Reader.{place_of}
 use Rattle.sz_der.specs.Spots.{after, at, front, inside, is_at_end, place_at, size_at, Spot, spot_of, tag_at, whole_at}
 use Rattle.sz_der.specs.declared.reader.DerReader.{DerReader}
-use Rattle.sz_der.specs.declared.tag.TheConstants.{SEQUENCE}
+use Rattle.sz_der.specs.Tags.{sequence_tag}
 use Rattle.sz_der.specs.declared.parts.PartFault.{PartFault}
 use Rattle.sz_der.proofs.Octets.{same_bytes}
 use Rattle.sz_der.proofs.Spots.{rule_from_holds}
@@ -26,8 +26,8 @@ use Rattle.sz_cms.specs.declared.kind.Kind.TheVariants as kind
 use Rattle.sz_cms.specs.declared.attributes.KnownValues.{KnownValues}
 use Rattle.sz_cms.specs.declared.fault.InfoKind.{InfoKind}
 use Rattle.sz_cms.specs.declared.fault.InfoKind.TheVariants as kinds
-use Rattle.sz_cms.specs.declared.identifier.TheConstants.{CONTENT_TYPE, MESSAGE_DIGEST}
-use Rattle.sz_cms.specs.declared.info.TheConstants.{MOST_SIGNERS}
+use Rattle.sz_cms.specs.Identifiers.{content_type_oid, message_digest_oid}
+use Rattle.sz_cms.specs.Limits.{most_signers}
 use Rattle.sz_cms.specs.declared.signer.Signer.{Signer}
 
 -- what holds holds where the answer is Ok
@@ -73,13 +73,13 @@ pub has_known : (known : List ℕ) (earlier : List Spot) (type : List ℕ) → i
     is_some (value_among earlier known) ≡ (is_known type && stands_among earlier type)
 has_known known earlier type e is = some_stands earlier known ∙ rw (same_bytes type known is, e) refl
 
-pub has_other : (earlier : List Spot) (type : List ℕ) → bytes_eq type CONTENT_TYPE ≡ false → bytes_eq type MESSAGE_DIGEST ≡ false →
+pub has_other : (earlier : List Spot) (type : List ℕ) → bytes_eq type content_type_oid ≡ false → bytes_eq type message_digest_oid ≡ false →
     false ≡ (is_known type && stands_among earlier type)
 has_other earlier type a b = rw (a, b) refl
 
 -- a type is not both
-pub not_digest : (type : List ℕ) → bytes_eq type CONTENT_TYPE ≡ true → bytes_eq type MESSAGE_DIGEST ≡ false
-not_digest type is = rw (same_bytes type CONTENT_TYPE is) refl
+pub not_digest : (type : List ℕ) → bytes_eq type content_type_oid ≡ true → bytes_eq type message_digest_oid ≡ false
+not_digest type is = rw (same_bytes type content_type_oid is) refl
 
 find_last : (p : Spot → Bool) (spots : List Spot) (spot : Spot) →
     find p (spots ++ spot ∷ []) ≡ cond (list_any p spots) (find p spots) (cond (p spot) (Some spot) None)
@@ -127,9 +127,9 @@ pub known_more : (earlier : List Spot) (spot : Spot) (old new : KnownValues) →
     (is_known (type_at spot) && stands_among earlier (type_at spot)) ≡ false → AreKnown (earlier ++ spot ∷ []) new
 known_more earlier spot old new known is fresh = record {
   content_type = is.content_type
-      ∙ ap (value_with CONTENT_TYPE (type_at spot) (inside (values_spot spot))) known.content_type ∙ value_more CONTENT_TYPE earlier spot refl fresh;
+      ∙ ap (value_with content_type_oid (type_at spot) (inside (values_spot spot))) known.content_type ∙ value_more content_type_oid earlier spot refl fresh;
   digest = is.digest
-      ∙ ap (value_with MESSAGE_DIGEST (type_at spot) (inside (values_spot spot))) known.digest ∙ value_more MESSAGE_DIGEST earlier spot refl fresh;
+      ∙ ap (value_with message_digest_oid (type_at spot) (inside (values_spot spot))) known.digest ∙ value_more message_digest_oid earlier spot refl fresh;
 }
 
 -- an option of a borrowed text has a value where its copy has
@@ -145,19 +145,19 @@ pub both_stand : (spots : List Spot) (known : KnownValues) (content_type digest 
 unfolding has_both
 both_stand spots known content_type digest are a b =
     rw (
-      type_stands spots CONTENT_TYPE (option_copied known.content_type) are.content_type,
+      type_stands spots content_type_oid (option_copied known.content_type) are.content_type,
       a,
-      type_stands spots MESSAGE_DIGEST (option_copied known.digest) are.digest,
+      type_stands spots message_digest_oid (option_copied known.digest) are.digest,
       b,
     ) refl
 
 pub one_missing : (spots : List Spot) (known : KnownValues) → AreKnown spots known →
     (option_copied known.content_type ≡ None) ⊎ (option_copied known.digest ≡ None) → has_both spots ≡ false
 unfolding has_both
-one_missing spots known are (inl a) = rw (type_stands spots CONTENT_TYPE (option_copied known.content_type) are.content_type, a) refl
+one_missing spots known are (inl a) = rw (type_stands spots content_type_oid (option_copied known.content_type) are.content_type, a) refl
 one_missing spots known are (inr b) =
-    and_right (stands_among spots CONTENT_TYPE) (stands_among spots MESSAGE_DIGEST)
-    (rw (type_stands spots MESSAGE_DIGEST (option_copied known.digest) are.digest, b) refl)
+    and_right (stands_among spots content_type_oid) (stands_among spots message_digest_oid)
+    (rw (type_stands spots message_digest_oid (option_copied known.digest) are.digest, b) refl)
 
 -- ---- where a message begins
 
@@ -200,16 +200,16 @@ pub same_signed : (k l : List ℕ) (c d : Option (List ℕ)) (xs ys us vs : List
 same_signed k l c d xs ys us vs ss ts e f g h i = rw (e, f, g, h, i) refl
 
 pub few_signers : (signers : ArrayVec Signer) (earlier : List Spot) → map signer_of signers.items ≡ map signer_at earlier → (full : Bool) →
-    full ≡ (length signers.items == MOST_SIGNERS) → full ≡ false → length signers.items ≤ MOST_SIGNERS → nat_lt (length earlier) MOST_SIGNERS ≡ true
+    full ≡ (length signers.items == most_signers) → full ≡ false → length signers.items ≤ most_signers → nat_lt (length earlier) most_signers ≡ true
 few_signers signers earlier same full is not_full within =
-    let differ : length signers.items ≡ MOST_SIGNERS → ⊥ = eqb-false (length signers.items) MOST_SIGNERS (sym is ∙ not_full) in
-    lt-ltb (length earlier) MOST_SIGNERS (omega (arith, same_length signer_of signer_at signers.items earlier same))
+    let differ : length signers.items ≡ most_signers → ⊥ = eqb-false (length signers.items) most_signers (sym is ∙ not_full) in
+    lt-ltb (length earlier) most_signers (omega (arith, same_length signer_of signer_at signers.items earlier same))
 
 pub many_signers : (signers : ArrayVec Signer) (earlier : List Spot) → map signer_of signers.items ≡ map signer_at earlier → (full : Bool) →
-    full ≡ (length signers.items == MOST_SIGNERS) → full ≡ true → nat_lt (length earlier) MOST_SIGNERS ≡ false
+    full ≡ (length signers.items == most_signers) → full ≡ true → nat_lt (length earlier) most_signers ≡ false
 many_signers signers earlier same full is all_full =
-    let all : length signers.items ≡ MOST_SIGNERS = eqb-true (length signers.items) MOST_SIGNERS (sym is ∙ all_full) in
-    le-ltb (length earlier) MOST_SIGNERS (omega (arith, same_length signer_of signer_at signers.items earlier same))
+    let all : length signers.items ≡ most_signers = eqb-true (length signers.items) most_signers (sym is ∙ all_full) in
+    le-ltb (length earlier) most_signers (omega (arith, same_length signer_of signer_at signers.items earlier same))
 
 -- ---- certificates and revocation lists
 
@@ -229,25 +229,26 @@ filter-append {A = A} p (x ∷ xs) ys =
 kept-append : (earlier : List Spot) (spot : Spot) → sequences_at (earlier ++ spot ∷ []) ≡ sequences_at earlier ++ sequences_at (spot ∷ [])
 kept-append earlier spot =
     ap sequences_of (map-append whole_at earlier (spot ∷ []))
-    ∙ filter-append (λ item. slice_index item 0 == SEQUENCE) (map whole_at earlier) (whole_at spot ∷ [])
+    ∙ filter-append (λ item. slice_index item 0 == sequence_tag) (map whole_at earlier) (whole_at spot ∷ [])
 
-pub kept_more : (earlier : List Spot) (spot : Spot) → tag_at spot ≡ SEQUENCE → sequences_at earlier ++ whole_at spot ∷ [] ≡ sequences_at (earlier ++ spot ∷ [])
+pub kept_more : (earlier : List Spot) (spot : Spot) → tag_at spot ≡ sequence_tag → sequences_at earlier ++ whole_at spot ∷ [] ≡ sequences_at
+    (earlier ++ spot ∷ [])
 kept_more earlier spot is =
-    let test : (get_or (whole_at spot) 0 0 == SEQUENCE) ≡ true = eq-eqb (get_or (whole_at spot) 0 0) SEQUENCE (begins spot ∙ is) in
+    let test : (get_or (whole_at spot) 0 0 == sequence_tag) ≡ true = eq-eqb (get_or (whole_at spot) 0 0) sequence_tag (begins spot ∙ is) in
     let one : sequences_at (spot ∷ []) ≡ whole_at spot ∷ [] = rw test refl in
     sym (kept-append earlier spot ∙ ap (λ (xs : List (List ℕ)). sequences_at earlier ++ xs) one)
 
 pub pushed_kept : (new kept : List (Bor (List ℕ))) (whole : Bor (List ℕ)) (earlier : List Spot) (spot : Spot) → new ≡ kept ++ whole ∷ [] →
-    map (λ item. item.now) kept ≡ sequences_at earlier → whole.now ≡ whole_at spot → tag_at spot ≡ SEQUENCE →
+    map (λ item. item.now) kept ≡ sequences_at earlier → whole.now ≡ whole_at spot → tag_at spot ≡ sequence_tag →
     map (λ item. item.now) new ≡ sequences_at (earlier ++ spot ∷ [])
 pushed_kept new kept whole earlier spot is same last sequence =
     ap (map (λ item. item.now)) is ∙ map-append (λ item. item.now) kept (whole ∷ []) ∙ ap (λ (zs : List (List ℕ)). zs ++ whole.now ∷ []) same
     ∙ ap (λ (z : List ℕ). sequences_at earlier ++ z ∷ []) last ∙ kept_more earlier spot sequence
 
-pub kept_other : (earlier : List Spot) (spot : Spot) → (tag_at spot ≡ SEQUENCE → ⊥) → sequences_at earlier ≡ sequences_at (earlier ++ spot ∷ [])
+pub kept_other : (earlier : List Spot) (spot : Spot) → (tag_at spot ≡ sequence_tag → ⊥) → sequences_at earlier ≡ sequences_at (earlier ++ spot ∷ [])
 kept_other earlier spot other =
-    let test : (get_or (whole_at spot) 0 0 == SEQUENCE) ≡ false =
-    ne_eqb (get_or (whole_at spot) 0 0) SEQUENCE (λ e. other (sym (begins spot) ∙ e)) in
+    let test : (get_or (whole_at spot) 0 0 == sequence_tag) ≡ false =
+    ne_eqb (get_or (whole_at spot) 0 0) sequence_tag (λ e. other (sym (begins spot) ∙ e)) in
     let none : sequences_at (spot ∷ []) ≡ [] = rw test refl in
     sym (kept-append earlier spot ∙ ap (λ (xs : List (List ℕ)). sequences_at earlier ++ xs) none ∙ append-nil (sequences_at earlier))
 
@@ -277,15 +278,16 @@ choice_fits most earlier spot item room =
           (or_right (not (is_sequence spot)) _ room),
     ) refl
 
-pub choice_other : (most : ℕ) (earlier : List Spot) (spot : Spot) → some_item spot ≡ None → (tag_at spot ≡ SEQUENCE → ⊥) → choice_fault most earlier spot ≡ None
+pub choice_other : (most : ℕ) (earlier : List Spot) (spot : Spot) → some_item spot ≡ None →
+    (tag_at spot ≡ sequence_tag → ⊥) → choice_fault most earlier spot ≡ None
 unfolding choice_fault is_sequence
-choice_other most earlier spot item other = rw (item, ne_eqb (tag_at spot) SEQUENCE other) refl
+choice_other most earlier spot item other = rw (item, ne_eqb (tag_at spot) sequence_tag other) refl
 
-pub sequence_is : (spot : Spot) → tag_at spot ≡ SEQUENCE → is_sequence spot ≡ true
+pub sequence_is : (spot : Spot) → tag_at spot ≡ sequence_tag → is_sequence spot ≡ true
 unfolding is_sequence
-sequence_is spot is = eq-eqb (tag_at spot) SEQUENCE is
+sequence_is spot is = eq-eqb (tag_at spot) sequence_tag is
 
-pub choice_over : (most : ℕ) (earlier : List Spot) (spot : Spot) → some_item spot ≡ None → tag_at spot ≡ SEQUENCE →
+pub choice_over : (most : ℕ) (earlier : List Spot) (spot : Spot) → some_item spot ≡ None → tag_at spot ≡ sequence_tag →
     nat_lt (length (sequences_at earlier)) most ≡ false → choice_fault most earlier spot ≡ Some (kinds.TooMany most, place_at spot)
 unfolding choice_fault
 choice_over most earlier spot item is full = rw (item, sequence_is spot is, full) refl

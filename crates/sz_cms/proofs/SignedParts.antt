@@ -7,7 +7,7 @@ use Rattle.std.proofs.lemmas.Bool.{cases_Bool, eqb-false, eqb-true, lt-ltb, ltb-
 use Rattle.std.proofs.lemmas.List.{append-nil}
 use Rattle.sz_der.specs.Der.{AreOctets, Der}
 use Rattle.sz_der.specs.Spots.{after, after_optional, content_at, inside, is_next, Spot, spots_from, tag_at, whole_at}
-use Rattle.sz_der.specs.declared.tag.TheConstants.{CONTEXT_CONSTRUCTED, OBJECT_IDENTIFIER, OCTET_STRING, SEQUENCE, SET}
+use Rattle.sz_der.specs.Tags.{context_constructed, object_identifier_tag, octet_string_tag, sequence_tag, set_tag}
 use Rattle.sz_der.proofs.Joined.{after_nothing, alone, and_then, Der_with, last}
 use Rattle.sz_der.proofs.Optional.{absent, after_next, after_other, BeginsWithout, found_next, next_stands, Optional, present, without_nothing}
 use Rattle.sz_der.proofs.Spots.{behind, Behind, end_from_nothing, found, found_part, holds_from_rule, inside-left, no_item-stands, no_part-stands, nothing_left, parts_of_none, stands}
@@ -28,7 +28,7 @@ algorithms_from_none spot fits n =
     let list = inside spot in
     let a = parts_of_none _ _ n in
     let b = parts_of_none _ _ a.1 in
-    let here = found_part _ _ SET spot fits a.0 in
+    let here = found_part _ _ set_tag spot fits a.0 in
     let are = are_written (λ _. algorithm_fault) IsAlgorithm algorithm_at (λ earlier. algorithm_from_none) (length list.left) [] list (omega arith)
     here.inside b.0 in (
       record {
@@ -55,63 +55,63 @@ pub algorithms_clear : (spot : Spot) (whole rest : List ℕ) → AreAlgorithms w
     (algorithms_fault spot ≡ None) × ((after spot).left ≡ rest)
 unfolding algorithms_fault
 algorithms_clear spot whole rest are joined =
-    let here = stands spot SET are.content whole rest are.is_set joined in
+    let here = stands spot set_tag are.content whole rest are.is_set joined in
     let list = inside spot in
     let each = clear_each (λ _. algorithm_fault) IsAlgorithm algorithm_at AnyRoom one_algorithm_clear (length list.left) [] list are.algorithms (omega arith)
     (rw here.inside_is are.are_algorithms) tt in
-    (rw (no_part-stands kinds.Der kinds.Shape spot SET are.content whole rest here, each.0) refl, here.after_is)
+    (rw (no_part-stands kinds.Der kinds.Shape spot set_tag are.content whole rest here, each.0) refl, here.after_is)
 
 -- ---- an OCTET STRING alone
 
-pub octets_from_none : (spot : Spot) → AreOctets spot.left → octets_fault spot ≡ None → Der OCTET_STRING (content_at spot) spot.left
+pub octets_from_none : (spot : Spot) → AreOctets spot.left → octets_fault spot ≡ None → Der octet_string_tag (content_at spot) spot.left
 unfolding octets_fault
 octets_from_none spot fits n =
     let a = parts_of_none _ _ n in
     let b = parts_of_none _ _ a.1 in
-    let here = found_part _ _ OCTET_STRING spot fits a.0 in
+    let here = found_part _ _ octet_string_tag spot fits a.0 in
     let only = last (whole_at spot) here.joined (nothing_left _ _ (after spot) b.0) in
-    subst (λ (x : List ℕ). Der OCTET_STRING (content_at spot) x) (sym only) here.is_item
+    subst (λ (x : List ℕ). Der octet_string_tag (content_at spot) x) (sym only) here.is_item
 
-pub octets_clear : (spot : Spot) (octets whole : List ℕ) → Der OCTET_STRING octets whole → spot.left ≡ whole →
+pub octets_clear : (spot : Spot) (octets whole : List ℕ) → Der octet_string_tag octets whole → spot.left ≡ whole →
     (octets_fault spot ≡ None) × (content_at spot ≡ octets)
 unfolding octets_fault
 octets_clear spot octets whole item left =
-    let here = stands spot OCTET_STRING octets whole [] item (alone whole left) in
+    let here = stands spot octet_string_tag octets whole [] item (alone whole left) in
     let nothing = end_from_nothing kinds.Der kinds.Shape (after spot) here.after_is in
-    (rw (no_part-stands kinds.Der kinds.Shape spot OCTET_STRING octets whole [] here, nothing) refl, here.content_is)
+    (rw (no_part-stands kinds.Der kinds.Shape spot octet_string_tag octets whole [] here, nothing) refl, here.content_is)
 
 -- ---- EncapsulatedContentInfo
 
 content_field_from_none : (spot : Spot) → AreOctets spot.left → content_field_fault spot ≡ None →
-    Optional spot CONTEXT_CONSTRUCTED (IsContentField (content_field_at spot))
+    Optional spot context_constructed (IsContentField (content_field_at spot))
 unfolding content_field_fault content_field_at
 content_field_from_none spot fits n =
-    elim (cases_Bool (is_next CONTEXT_CONSTRUCTED spot)) [
+    elim (cases_Bool (is_next context_constructed spot)) [
       | inl next ↦
           let a = parts_of_none _ _ (rw next at n) in
           let b = parts_of_none _ _ a.1 in
-          let here = found_next _ CONTEXT_CONSTRUCTED spot fits next a.0 in
+          let here = found_next _ context_constructed spot fits next a.0 in
           let octets = octets_from_none (inside spot) here.inside b.0 in
-          present spot CONTEXT_CONSTRUCTED (IsContentField (content_field_at spot)) here next
+          present spot context_constructed (IsContentField (content_field_at spot)) here next
           (rw next (record { inner = (inside spot).left; is_octets = octets; is_explicit = Der_with (sym (inside-left spot)) here.is_item }))
-      | inr other ↦ absent spot CONTEXT_CONSTRUCTED (IsContentField (content_field_at spot)) fits other (rw other refl)
+      | inr other ↦ absent spot context_constructed (IsContentField (content_field_at spot)) fits other (rw other refl)
     ]
 
 content_field_clear : (spot : Spot) (content : Option (List ℕ)) (piece : List ℕ) → IsContentField content piece → spot.left ≡ piece ++ [] →
-    FieldClear (content_field_fault spot) (content_field_at spot) content spot CONTEXT_CONSTRUCTED []
+    FieldClear (content_field_fault spot) (content_field_at spot) content spot context_constructed []
 unfolding content_field_fault content_field_at
 content_field_clear spot None piece nothing joined =
     let left = after_nothing piece joined nothing in
-    let other = without_nothing CONTEXT_CONSTRUCTED spot left in
-    record { no_fault = rw other refl; value_is = rw other refl; after_is = rw (after_other CONTEXT_CONSTRUCTED spot other) left }
+    let other = without_nothing context_constructed spot left in
+    record { no_fault = rw other refl; value_is = rw other refl; after_is = rw (after_other context_constructed spot other) left }
 content_field_clear spot (Some content) piece is joined =
-    let here = stands spot CONTEXT_CONSTRUCTED is.inner piece [] is.is_explicit joined in
-    let next = next_stands spot CONTEXT_CONSTRUCTED is.inner piece [] here in
+    let here = stands spot context_constructed is.inner piece [] is.is_explicit joined in
+    let next = next_stands spot context_constructed is.inner piece [] here in
     let octets = octets_clear (inside spot) content is.inner is.is_octets here.inside_is in
     record {
       no_fault = rw (next, no_item-stands kinds.Der here, octets.0) refl;
       value_is = rw next (ap (λ (x : List ℕ). Some x) octets.1);
-      after_is = rw (after_next CONTEXT_CONSTRUCTED spot next) here.after_is;
+      after_is = rw (after_next context_constructed spot next) here.after_is;
     }
 
 pub content_from_none : (spot : Spot) → AreOctets spot.left → content_fault spot ≡ None →
@@ -122,10 +122,10 @@ content_from_none spot fits n =
     let b = parts_of_none _ _ a.1 in
     let c = parts_of_none _ _ b.1 in
     let d = parts_of_none _ _ c.1 in
-    let here = found_part _ _ SEQUENCE spot fits a.0 in
-    let identifier = found_part _ _ OBJECT_IDENTIFIER (inside spot) here.inside b.0 in
+    let here = found_part _ _ sequence_tag spot fits a.0 in
+    let identifier = found_part _ _ object_identifier_tag (inside spot) here.inside b.0 in
     let field = content_field_from_none (after (inside spot)) identifier.after c.0 in
-    let only = and_then field.piece field.joined (nothing_left _ _ (after_optional CONTEXT_CONSTRUCTED (after (inside spot))) d.0) in (
+    let only = and_then field.piece field.joined (nothing_left _ _ (after_optional context_constructed (after (inside spot))) d.0) in (
       record {
         identifier = whole_at (inside spot);
         field = field.piece;
@@ -147,15 +147,15 @@ pub content_clear : (spot : Spot) (kind : List ℕ) (content : Option (List ℕ)
     spot.left ≡ whole ++ rest → ContentClear spot kind content rest
 unfolding content_fault
 content_clear spot kind content whole rest is joined =
-    let here = stands spot SEQUENCE (concat (is.identifier ∷ is.field ∷ [])) whole rest is.is_sequence joined in
-    let identifier = stands (inside spot) OBJECT_IDENTIFIER kind is.identifier (concat (is.field ∷ [])) is.is_identifier here.inside_is in
+    let here = stands spot sequence_tag (concat (is.identifier ∷ is.field ∷ [])) whole rest is.is_sequence joined in
+    let identifier = stands (inside spot) object_identifier_tag kind is.identifier (concat (is.field ∷ [])) is.is_identifier here.inside_is in
     let field = content_field_clear (after (inside spot)) content is.field is.is_field identifier.after_is in
     record {
       no_fault = rw (
-        no_part-stands kinds.Der kinds.Shape spot SEQUENCE (concat (is.identifier ∷ is.field ∷ [])) whole rest here,
-        no_part-stands kinds.Der kinds.Shape (inside spot) OBJECT_IDENTIFIER kind is.identifier (concat (is.field ∷ [])) identifier,
+        no_part-stands kinds.Der kinds.Shape spot sequence_tag (concat (is.identifier ∷ is.field ∷ [])) whole rest here,
+        no_part-stands kinds.Der kinds.Shape (inside spot) object_identifier_tag kind is.identifier (concat (is.field ∷ [])) identifier,
         field.no_fault,
-        end_from_nothing kinds.Der kinds.Shape (after_optional CONTEXT_CONSTRUCTED (after (inside spot))) field.after_is,
+        end_from_nothing kinds.Der kinds.Shape (after_optional context_constructed (after (inside spot))) field.after_is,
       ) refl;
       kind_is = identifier.content_is;
       content_is = field.value_is;
@@ -178,7 +178,7 @@ module _ (most : ℕ) where
       ((refl, (tag_at spot, content_at spot, here.is_item)), behind here)
 
   -- a further SEQUENCE has room
-  choice_within : (earlier : List Spot) (spot : Spot) → choice_fault most earlier spot ≡ None → tag_at spot ≡ SEQUENCE →
+  choice_within : (earlier : List Spot) (spot : Spot) → choice_fault most earlier spot ≡ None → tag_at spot ≡ sequence_tag →
       length (sequences_at earlier) < most
   unfolding choice_fault
   choice_within earlier spot n is =
@@ -195,15 +195,15 @@ module _ (most : ℕ) where
       let a = parts_of_none _ _ n in
       let b = parts_of_none _ _ a.1 in
       let all = append_assoc earlier (spot ∷ []) later in
-      elim (cases_Bool (tag_at spot == SEQUENCE)) [
+      elim (cases_Bool (tag_at spot == sequence_tag)) [
         | inl is ↦
-            let sequence = eqb-true (tag_at spot) SEQUENCE is in
+            let sequence = eqb-true (tag_at spot) sequence_tag is in
             let within = choice_within earlier spot a.0 sequence in
             let more = ap (λ (xs : List (List ℕ)). length xs) (kept_more earlier spot sequence) in
             let rest = few_from_none (earlier ++ spot ∷ []) later (omega (arith, length-append (sequences_at earlier) (whole_at spot ∷ []))) b.0 in
             subst (λ (spots : List Spot). length (sequences_at spots) ≤ most) all rest
         | inr other ↦
-            let same = ap (λ (xs : List (List ℕ)). length xs) (kept_other earlier spot (eqb-false (tag_at spot) SEQUENCE other)) in
+            let same = ap (λ (xs : List (List ℕ)). length xs) (kept_other earlier spot (eqb-false (tag_at spot) sequence_tag other)) in
             let rest = few_from_none (earlier ++ spot ∷ []) later (omega arith) b.0 in
             subst (λ (spots : List Spot). length (sequences_at spots) ≤ most) all rest
       ]
@@ -240,9 +240,9 @@ module _ (most : ℕ) where
       let here = stands spot is.1.0 is.1.1 whole rest is.1.2 joined in
       let same = here.whole_is ∙ sym is.0 in
       let first : get_or item 0 0 ≡ tag_at spot = ap (λ (x : List ℕ). get_or x 0 0) (sym same) ∙ begins spot in
-      elim (cases_Bool (tag_at spot == SEQUENCE)) [
+      elim (cases_Bool (tag_at spot == sequence_tag)) [
         | inl is_one ↦
-            let sequence = eqb-true (tag_at spot) SEQUENCE is_one in
+            let sequence = eqb-true (tag_at spot) sequence_tag is_one in
             let kept : sequences_of (item ∷ items) ≡ item ∷ sequences_of items = rw (first, is_one) refl in
             let count = ap (λ (xs : List (List ℕ)). length xs) kept in
             let within = lt-ltb (length (sequences_at earlier)) most (omega (arith, room.few)) in
@@ -255,7 +255,7 @@ module _ (most : ℕ) where
               room = record { few = omega (arith, room.few, length-append (sequences_at earlier) (whole_at spot ∷ [])) };
             }
         | inr is_none ↦
-            let other = eqb-false (tag_at spot) SEQUENCE is_none in
+            let other = eqb-false (tag_at spot) sequence_tag is_none in
             let kept : sequences_of (item ∷ items) ≡ sequences_of items = rw (first, is_none) refl in
             let count = ap (λ (xs : List (List ℕ)). length xs) kept in
             let stays = ap (λ (xs : List (List ℕ)). length xs) (kept_other earlier spot other) in

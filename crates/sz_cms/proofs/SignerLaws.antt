@@ -5,7 +5,7 @@ use Rattle.std.proofs.lemmas.Bool.{cases_Bool}
 use Rattle.sz_der.specs.Der.{AreOctets, Der}
 use Rattle.sz_der.specs.Integer.{is_integer, IsInteger}
 use Rattle.sz_der.specs.Spots.{no_integer, after, content_at, inside, is_at_end, is_next, Spot, tag_at, whole_at}
-use Rattle.sz_der.specs.declared.tag.TheConstants.{CONTEXT_PRIMITIVE, INTEGER, OBJECT_IDENTIFIER, SEQUENCE}
+use Rattle.sz_der.specs.Tags.{context_primitive, integer_tag, object_identifier_tag, sequence_tag}
 use Rattle.sz_der.proofs.IntegerTest.{integer_test, IsInteger_from_test}
 use Rattle.sz_der.proofs.Joined.{and_then, Der_with}
 use Rattle.sz_der.proofs.Optional.{found_next, next_stands, without_item}
@@ -17,23 +17,23 @@ use Rattle.sz_cms.specs.declared.fault.InfoKind.TheVariants as kinds
 
 -- ---- INTEGER
 
-pub integer_from_none : (spot : Spot) → AreOctets spot.left → integer_fault spot ≡ None → IsInteger (content_at spot) × Found spot INTEGER
+pub integer_from_none : (spot : Spot) → AreOctets spot.left → integer_fault spot ≡ None → IsInteger (content_at spot) × Found spot integer_tag
 unfolding no_integer
 integer_from_none spot fits n =
     let a = parts_of_none _ _ n in
     let b = parts_of_none _ _ a.1 in (
       IsInteger_from_test (content_at spot) (holds_from_rule (is_integer (content_at spot)) kinds.Der spot b.0),
-      found_part _ _ INTEGER spot fits a.0,
+      found_part _ _ integer_tag spot fits a.0,
     )
 
-pub integer_clear : (spot : Spot) (number whole rest : List ℕ) → IsInteger number → Der INTEGER number whole → spot.left ≡ whole ++ rest →
-    (integer_fault spot ≡ None) × Stands spot INTEGER number whole rest
+pub integer_clear : (spot : Spot) (number whole rest : List ℕ) → IsInteger number → Der integer_tag number whole → spot.left ≡ whole ++ rest →
+    (integer_fault spot ≡ None) × Stands spot integer_tag number whole rest
 unfolding no_integer
 integer_clear spot number whole rest minimal item joined =
-    let here = stands spot INTEGER number whole rest item joined in
+    let here = stands spot integer_tag number whole rest item joined in
     let test : is_integer (content_at spot) ≡ true = rw here.content_is (integer_test number minimal) in (
       rw (
-        no_part-stands kinds.Der kinds.Shape spot INTEGER number whole rest here,
+        no_part-stands kinds.Der kinds.Shape spot integer_tag number whole rest here,
         rule_from_holds (is_integer (content_at spot)) kinds.Der spot test,
       ) refl,
       here,
@@ -70,8 +70,8 @@ algorithm_from_none spot fits n =
     let a = parts_of_none _ _ n in
     let b = parts_of_none _ _ a.1 in
     let c = parts_of_none _ _ b.1 in
-    let sequence = found_part _ _ SEQUENCE spot fits a.0 in
-    let identifier = found_part _ _ OBJECT_IDENTIFIER (inside spot) sequence.inside b.0 in
+    let sequence = found_part _ _ sequence_tag spot fits a.0 in
+    let identifier = found_part _ _ object_identifier_tag (inside spot) sequence.inside b.0 in
     let parameters = parameters_from_none (parameters_spot spot) identifier.after c.0 in (
       record {
         identifier = whole_at (inside spot);
@@ -97,14 +97,15 @@ pub algorithm_clear : (spot : Spot) (algorithm : Algorithm) (whole rest : List �
     Clear (algorithm_fault spot) (algorithm_at spot) algorithm spot rest
 unfolding algorithm_fault algorithm_at
 algorithm_clear spot algorithm whole rest is joined =
-    let sequence = stands spot SEQUENCE (concat (is.identifier ∷ algorithm.parameters ∷ [])) whole rest is.is_sequence joined in
-    let identifier = stands (inside spot) OBJECT_IDENTIFIER algorithm.identifier is.identifier (concat (algorithm.parameters ∷ [])) is.is_identifier
+    let sequence = stands spot sequence_tag (concat (is.identifier ∷ algorithm.parameters ∷ [])) whole rest is.is_sequence joined in
+    let identifier = stands (inside spot) object_identifier_tag algorithm.identifier is.identifier (concat (algorithm.parameters ∷ [])) is.is_identifier
     sequence.inside_is in
     let parameters = parameters_clear (parameters_spot spot) algorithm.parameters is.is_parameters identifier.after_is in
     record {
       no_fault = rw (
-        no_part-stands kinds.Der kinds.Shape spot SEQUENCE (concat (is.identifier ∷ algorithm.parameters ∷ [])) whole rest sequence,
-        no_part-stands kinds.Der kinds.Shape (inside spot) OBJECT_IDENTIFIER algorithm.identifier is.identifier (concat (algorithm.parameters ∷ [])) identifier,
+        no_part-stands kinds.Der kinds.Shape spot sequence_tag (concat (is.identifier ∷ algorithm.parameters ∷ [])) whole rest sequence,
+        no_part-stands kinds.Der kinds.Shape (inside spot) object_identifier_tag algorithm.identifier is.identifier
+            (concat (algorithm.parameters ∷ [])) identifier,
         parameters.0,
       ) refl;
       value_is = same_algorithm (content_at (inside spot)) (parameters_at (parameters_spot spot)) algorithm identifier.content_is parameters.1;
@@ -122,8 +123,8 @@ issuer_serial_from_none spot fits n =
     let b = parts_of_none _ _ a.1 in
     let c = parts_of_none _ _ b.1 in
     let d = parts_of_none _ _ c.1 in
-    let sequence = found_part _ _ SEQUENCE spot fits a.0 in
-    let issuer = found_part _ _ SEQUENCE (inside spot) sequence.inside b.0 in
+    let sequence = found_part _ _ sequence_tag spot fits a.0 in
+    let issuer = found_part _ _ sequence_tag (inside spot) sequence.inside b.0 in
     let serial = integer_from_none (after (inside spot)) issuer.after c.0 in
     let only = and_then (whole_at (after (inside spot))) serial.1.joined (nothing_left _ _ (after (after (inside spot))) d.0) in (
       record {
@@ -141,13 +142,13 @@ issuer_serial_clear : (spot : Spot) (issuer serial whole rest : List ℕ) → Is
     Clear (issuer_serial_fault spot) (issuer_serial_at spot) (IssuerSerial issuer serial) spot rest
 unfolding issuer_serial_fault issuer_serial_at
 issuer_serial_clear spot issuer serial whole rest is joined =
-    let sequence = stands spot SEQUENCE (concat (issuer ∷ is.number ∷ [])) whole rest is.is_sequence joined in
-    let name = stands (inside spot) SEQUENCE is.names issuer (concat (is.number ∷ [])) is.is_issuer sequence.inside_is in
+    let sequence = stands spot sequence_tag (concat (issuer ∷ is.number ∷ [])) whole rest is.is_sequence joined in
+    let name = stands (inside spot) sequence_tag is.names issuer (concat (is.number ∷ [])) is.is_issuer sequence.inside_is in
     let number = integer_clear (after (inside spot)) serial is.number [] is.is_minimal is.is_serial name.after_is in
     record {
       no_fault = rw (
-        no_part-stands kinds.Der kinds.Shape spot SEQUENCE (concat (issuer ∷ is.number ∷ [])) whole rest sequence,
-        no_part-stands kinds.Der kinds.Shape (inside spot) SEQUENCE is.names issuer (concat (is.number ∷ [])) name,
+        no_part-stands kinds.Der kinds.Shape spot sequence_tag (concat (issuer ∷ is.number ∷ [])) whole rest sequence,
+        no_part-stands kinds.Der kinds.Shape (inside spot) sequence_tag is.names issuer (concat (is.number ∷ [])) name,
         number.0,
         end_from_nothing kinds.Der kinds.Shape (after (after (inside spot))) number.1.after_is,
       ) refl;
@@ -159,9 +160,9 @@ issuer_serial_clear spot issuer serial whole rest is joined =
 pub identifier_from_none : (spot : Spot) → AreOctets spot.left → identifier_fault spot ≡ None → IsIdentifier (identifier_at spot) (whole_at spot) × Behind spot
 unfolding identifier_fault identifier_at
 identifier_from_none spot fits n =
-    elim (cases_Bool (is_next CONTEXT_PRIMITIVE spot)) [
+    elim (cases_Bool (is_next context_primitive spot)) [
       | inl next ↦
-          let here = found_next _ CONTEXT_PRIMITIVE spot fits next (rw next at n) in
+          let here = found_next _ context_primitive spot fits next (rw next at n) in
           rw next (here.is_item, behind here)
       | inr other ↦ rw other (issuer_serial_from_none spot fits (rw other at n))
     ]
@@ -170,9 +171,9 @@ pub identifier_clear : (spot : Spot) (identifier : Identifier) (whole rest : Lis
     Clear (identifier_fault spot) (identifier_at spot) identifier spot rest
 unfolding identifier_fault identifier_at
 identifier_clear spot (IssuerSerial issuer serial) whole rest is joined =
-    let other = without_item CONTEXT_PRIMITIVE SEQUENCE _ whole rest is.is_sequence (λ e. absurd (omega arith)) spot joined in
+    let other = without_item context_primitive sequence_tag _ whole rest is.is_sequence (λ e. absurd (omega arith)) spot joined in
     rw other (issuer_serial_clear spot issuer serial whole rest is joined)
 identifier_clear spot (KeyId octets) whole rest is joined =
-    let here = stands spot CONTEXT_PRIMITIVE octets whole rest is joined in
-    let next = next_stands spot CONTEXT_PRIMITIVE octets whole rest here in
+    let here = stands spot context_primitive octets whole rest is joined in
+    let next = next_stands spot context_primitive octets whole rest here in
     rw next (record { no_fault = no_item-stands kinds.Der here; value_is = ap KeyId here.content_is; after_is = here.after_is; some = here.is_some })

@@ -6,7 +6,7 @@ use Rattle.std.proofs.Common.{◌≡◌, ℕ, ◌+◌, inl, inr, ◌<◌, ◌≤
 use Rattle.std.proofs.lemmas.Bool.{cases_Bool, lt-ltb, ltb-true}
 use Rattle.sz_der.specs.Der.{AreOctets}
 use Rattle.sz_der.specs.Spots.{after_optional, content_at, inside, is_next, Spot, spots_from, whole_at}
-use Rattle.sz_der.specs.declared.tag.TheConstants.{CONTEXT_CONSTRUCTED, OCTET_STRING, SEQUENCE, SET}
+use Rattle.sz_der.specs.Tags.{context_constructed, octet_string_tag, sequence_tag, set_tag}
 use Rattle.sz_der.proofs.Joined.{after_nothing, and_then, Der_with}
 use Rattle.sz_der.proofs.Optional.{absent, after_next, after_other, found_next, next_stands, Optional, present, without_item, without_nothing}
 use Rattle.sz_der.proofs.Spots.{behind, Behind, end_from_nothing, Found, found_part, holds_from_rule, inside-left, no_item-stands, no_part-stands, nothing_left, parts_of_none, rule_from_holds, stands}
@@ -14,7 +14,7 @@ use Rattle.sz_cms.specs.Message.{AreSigners, IsOptional, IsSigner, Signer, signe
 use Rattle.sz_cms.specs.MessageFault.{algorithm_spot, attributes_spot, digest_spot, each_after, identifier_spot, signature_spot, signer_fault, signer_parts_fault, signers_fault, unsigned_fault, unsigned_spot, unsigned_tag}
 use Rattle.sz_cms.specs.Places.{algorithm_at, attributes_at, identifier_at, signer_at, signer_from, signers_at}
 use Rattle.sz_cms.specs.declared.fault.InfoKind.TheVariants as kinds
-use Rattle.sz_cms.specs.declared.info.TheConstants.{MOST_SIGNERS}
+use Rattle.sz_cms.specs.Limits.{most_signers}
 use Rattle.sz_cms.proofs.AttributeLaws.{attributes_clear, attributes_from_none}
 use Rattle.sz_cms.proofs.Lists.{are_written, clear_each, IsClear}
 use Rattle.sz_cms.proofs.Readings.{by_hss_is, same_signer}
@@ -47,7 +47,7 @@ unsigned_clear spot piece (inr some) joined =
 
 -- ---- SignerInfo
 
-signer_from_none : (spot : Spot) → Found spot SEQUENCE → signer_parts_fault (inside spot) ≡ None → IsSigner (signer_at spot) (whole_at spot)
+signer_from_none : (spot : Spot) → Found spot sequence_tag → signer_parts_fault (inside spot) ≡ None → IsSigner (signer_at spot) (whole_at spot)
 unfolding signer_parts_fault signer_from
 signer_from_none spot here n =
     let first = inside spot in
@@ -64,7 +64,7 @@ signer_from_none spot here n =
     let digest = algorithm_from_none (digest_spot first) identifier.1.after c.0 in
     let attributes = attributes_from_none (attributes_spot first) digest.1.after d.0 in
     let algorithm = algorithm_from_none (algorithm_spot first) attributes.after e.0 in
-    let signature = found_part _ _ OCTET_STRING (signature_spot first) algorithm.1.after f.0 in
+    let signature = found_part _ _ octet_string_tag (signature_spot first) algorithm.1.after f.0 in
     let unsigned = unsigned_from_none (unsigned_spot first) signature.after g.0 in
     let only = and_then unsigned.piece unsigned.joined (nothing_left _ _ (after_optional unsigned_tag (unsigned_spot first)) h.0) in
     let tail = and_then (whole_at (algorithm_spot first)) algorithm.1.joined (and_then (whole_at (signature_spot first)) signature.joined only) in
@@ -105,13 +105,13 @@ signer_parts_clear first signer bytes is left =
     let identifier = identifier_clear (identifier_spot first) signer.identifier is.parts.identifier _ is.is_identifier version.1.after_is in
     let digest = algorithm_clear (digest_spot first) is.has_algorithms.digest is.parts.digest_algorithm _ is.has_algorithms.is_digest identifier.after_is in
     let behind_it = concat (is.parts.signature ∷ is.parts.unsigned ∷ []) in
-    let without = without_item CONTEXT_CONSTRUCTED SEQUENCE _ is.parts.signature_algorithm behind_it is.has_algorithms.is_signature.is_sequence
+    let without = without_item context_constructed sequence_tag _ is.parts.signature_algorithm behind_it is.has_algorithms.is_signature.is_sequence
     (λ e. absurd (omega arith)) in
     let attributes = attributes_clear (attributes_spot first) signer.attributes is.parts.attributes (is.parts.signature_algorithm ++ behind_it)
     is.is_attributes without digest.after_is in
     let algorithm = algorithm_clear (algorithm_spot first) is.has_algorithms.signature is.parts.signature_algorithm _ is.has_algorithms.is_signature
     attributes.after_is in
-    let signature = stands (signature_spot first) OCTET_STRING signer.signature is.parts.signature _ is.is_signature algorithm.after_is in
+    let signature = stands (signature_spot first) octet_string_tag signer.signature is.parts.signature _ is.is_signature algorithm.after_is in
     let unsigned = unsigned_clear (unsigned_spot first) is.parts.unsigned is.is_unsigned signature.after_is in
     let by_hss = by_hss_is (algorithm_at (digest_spot first)) is.has_algorithms.digest (algorithm_at (algorithm_spot first)) is.has_algorithms.signature
     digest.value_is algorithm.value_is ∙ sym is.has_algorithms.told in (
@@ -121,7 +121,7 @@ signer_parts_clear first signer bytes is left =
         digest.no_fault,
         attributes.no_fault,
         algorithm.no_fault,
-        no_part-stands kinds.Der kinds.Shape (signature_spot first) OCTET_STRING _ _ _ signature,
+        no_part-stands kinds.Der kinds.Shape (signature_spot first) octet_string_tag _ _ _ signature,
         unsigned.0,
         end_from_nothing kinds.Der kinds.Shape (after_optional unsigned_tag (unsigned_spot first)) unsigned.1,
       ) refl,
@@ -140,18 +140,18 @@ signer_shows earlier spot fits n =
     let a = parts_of_none _ _ n in
     let b = parts_of_none _ _ a.1 in
     let c = parts_of_none _ _ b.1 in
-    let here = found_part _ _ SEQUENCE spot fits a.0 in
+    let here = found_part _ _ sequence_tag spot fits a.0 in
     (signer_from_none spot here c.0, behind here)
 
-signer_within : (earlier : List Spot) (spot : Spot) → signer_fault earlier spot ≡ None → length earlier < MOST_SIGNERS
+signer_within : (earlier : List Spot) (spot : Spot) → signer_fault earlier spot ≡ None → length earlier < most_signers
 unfolding signer_fault
 signer_within earlier spot n =
     let a = parts_of_none _ _ n in
     let b = parts_of_none _ _ a.1 in
-    ltb-true (length earlier) MOST_SIGNERS (holds_from_rule (nat_lt (length earlier) MOST_SIGNERS) (kinds.TooMany MOST_SIGNERS) spot b.0)
+    ltb-true (length earlier) most_signers (holds_from_rule (nat_lt (length earlier) most_signers) (kinds.TooMany most_signers) spot b.0)
 
-few_from_none : (earlier spots : List Spot) → length earlier ≤ MOST_SIGNERS → each_after signer_fault earlier spots ≡ None →
-    length earlier + length (map signer_at spots) ≤ MOST_SIGNERS
+few_from_none : (earlier spots : List Spot) → length earlier ≤ most_signers → each_after signer_fault earlier spots ≡ None →
+    length earlier + length (map signer_at spots) ≤ most_signers
 few_from_none earlier [] few n = omega arith
 few_from_none earlier (spot ∷ later) few n =
     let a = parts_of_none _ _ n in
@@ -167,7 +167,7 @@ signers_from_none spot fits n =
     let list = inside spot in
     let a = parts_of_none _ _ n in
     let b = parts_of_none _ _ a.1 in
-    let here = found_part _ _ SET spot fits a.0 in
+    let here = found_part _ _ set_tag spot fits a.0 in
     let are = are_written signer_fault IsSigner signer_at signer_shows (length list.left) [] list (omega arith) here.inside b.0 in
     let few = few_from_none [] (spots_from list) (omega arith) b.0 in (
       record { content = list.left; are_signers = are; is_set = Der_with (sym (inside-left spot)) here.is_item; few = omega arith },
@@ -176,19 +176,19 @@ signers_from_none spot fits n =
 
 -- how many more there may be
 record Room (earlier : List Spot) (signers : List Signer) : Type 0 where
-  pub few : length earlier + length signers ≤ MOST_SIGNERS
+  pub few : length earlier + length signers ≤ most_signers
 
 signer_clear : (earlier : List Spot) (spot : Spot) (signer : Signer) (signers : List Signer) (whole rest : List ℕ) → Room earlier (signer ∷ signers) →
     IsSigner signer whole → spot.left ≡ whole ++ rest → IsClear signer_fault signer_at Room earlier spot signer signers rest
 unfolding signer_fault
 signer_clear earlier spot signer signers whole rest room is joined =
-    let sequence = stands spot SEQUENCE (concat (signer_parts is.parts)) whole rest is.is_sequence joined in
+    let sequence = stands spot sequence_tag (concat (signer_parts is.parts)) whole rest is.is_sequence joined in
     let parts = signer_parts_clear (inside spot) signer whole is sequence.inside_is in
-    let within = lt-ltb (length earlier) MOST_SIGNERS (omega (arith, room.few)) in
+    let within = lt-ltb (length earlier) most_signers (omega (arith, room.few)) in
     record {
       no_fault = rw (
-        no_part-stands kinds.Der kinds.Shape spot SEQUENCE (concat (signer_parts is.parts)) whole rest sequence,
-        rule_from_holds (nat_lt (length earlier) MOST_SIGNERS) (kinds.TooMany MOST_SIGNERS) spot within,
+        no_part-stands kinds.Der kinds.Shape spot sequence_tag (concat (signer_parts is.parts)) whole rest sequence,
+        rule_from_holds (nat_lt (length earlier) most_signers) (kinds.TooMany most_signers) spot within,
         parts.0,
       ) refl;
       value_is = parts.1;
@@ -201,13 +201,13 @@ pub signers_clear : (spot : Spot) (signers : List Signer) (whole rest : List ℕ
     Clear (signers_fault spot) (signers_at spot) signers spot rest
 unfolding signers_fault signers_at
 signers_clear spot signers whole rest are joined =
-    let here = stands spot SET are.content whole rest are.is_set joined in
+    let here = stands spot set_tag are.content whole rest are.is_set joined in
     let list = inside spot in
     let room : Room [] signers = record { few = omega (arith, are.few) } in
     let each = clear_each signer_fault IsSigner signer_at Room signer_clear (length list.left) [] list signers (omega arith)
     (rw here.inside_is are.are_signers) room in
     record {
-      no_fault = rw (no_part-stands kinds.Der kinds.Shape spot SET are.content whole rest here, each.0) refl;
+      no_fault = rw (no_part-stands kinds.Der kinds.Shape spot set_tag are.content whole rest here, each.0) refl;
       value_is = each.1;
       after_is = here.after_is;
       some = here.is_some;

@@ -1,10 +1,10 @@
 -- SEQUENCEs spelled by hand, for tests.
 use Rattle.std.proofs.Common.{ℕ, inl, ◌≤◌, [], ◌∷◌, refl, arith}
 use Rattle.sz_der.specs.Der.{Der}
-use Rattle.sz_der.specs.declared.tag.TheConstants.{SEQUENCE}
+use Rattle.sz_der.specs.Tags.{sequence_tag}
 use Rattle.sz_cms.specs.Written.{AreSequences}
 
-pub empty_sequence : Der SEQUENCE [] (48 ∷ 0 ∷ [])
+pub empty_sequence : Der sequence_tag [] (48 ∷ 0 ∷ [])
 empty_sequence = record {
   is_tag = (omega arith, λ e. absurd (omega arith));
   size = 0 ∷ [];
@@ -12,7 +12,7 @@ empty_sequence = record {
   spelled = refl;
 }
 
-null_in_sequence : Der SEQUENCE (5 ∷ 0 ∷ []) (48 ∷ 2 ∷ 5 ∷ 0 ∷ [])
+null_in_sequence : Der sequence_tag (5 ∷ 0 ∷ []) (48 ∷ 2 ∷ 5 ∷ 0 ∷ [])
 null_in_sequence = record {
   is_tag = (omega arith, λ e. absurd (omega arith));
   size = 2 ∷ [];

@@ -7,13 +7,13 @@ use Rattle.sha2.specs.Sha256.{sha256}
 use Rattle.sz_der.specs.Der.{Der}
 use Rattle.sz_der.specs.Integer.{IsInteger}
 use Rattle.sz_der.specs.Spots.{AreEach}
-use Rattle.sz_der.specs.declared.tag.TheConstants.{CONTEXT_CONSTRUCTED, OBJECT_IDENTIFIER, OCTET_STRING, SEQUENCE, SET}
+use Rattle.sz_der.specs.Tags.{context_constructed, object_identifier_tag, octet_string_tag, sequence_tag, set_tag}
 use Rattle.sz_der.proofs.Joined.{Der_with}
 use Rattle.sz_cms.specs.Message.{HasAttributes, InfoOf, IsAlgorithm, IsAttribute, IsChoicesField, IsContent, IsContentInfo, IsItem, IsSigned, IsSigner, sequences_of, Signed, SignedData, Signer}
 use Rattle.sz_cms.specs.Spelled.{alone_of, by_hss_lms, by_sha256, content_of, IsListsField, IsOneValued, IsSignedByOne, IsWrittenSigned, IsWrittenSigner, signed_version}
 use Rattle.sz_cms.specs.Written.{AreAttributesOf, AreSequences, certs_signed, IsSequence, message_signed, written_signer}
-use Rattle.sz_cms.specs.declared.identifier.TheConstants.{CONTENT_TYPE, MESSAGE_DIGEST, SIGNED_DATA}
-use Rattle.sz_cms.specs.declared.info.TheConstants.{MOST_CERTS, MOST_CRLS}
+use Rattle.sz_cms.specs.Identifiers.{content_type_oid, message_digest_oid, signed_data_oid}
+use Rattle.sz_cms.specs.Limits.{most_certs, most_crls}
 
 -- ---- parts, one after another
 
@@ -40,9 +40,9 @@ concat_more xs i d within =
 
 one_by_one : (items : List (List ℕ)) → AllByRecursion IsSequence items → AreEach (λ item bytes. (item ≡ bytes) × IsItem bytes) items (concat items)
 one_by_one [] each = refl
-one_by_one (item ∷ items) each = (item, concat items, (refl, (SEQUENCE, each.0.0, each.0.1)), refl, one_by_one items each.1)
+one_by_one (item ∷ items) each = (item, concat items, (refl, (sequence_tag, each.0.0, each.0.1)), refl, one_by_one items each.1)
 
-begins : (content item : List ℕ) → Der SEQUENCE content item → (slice_index item 0 == SEQUENCE) ≡ true
+begins : (content item : List ℕ) → Der sequence_tag content item → (slice_index item 0 == sequence_tag) ≡ true
 begins content item is = rw is.spelled refl
 
 all_kept : (items : List (List ℕ)) → AllByRecursion IsSequence items → sequences_of items ≡ items
@@ -61,7 +61,7 @@ choices_written most tag items content bytes is item are =
 
 -- ---- the content and its type
 
-pub content_alone : (kind identifier bytes : List ℕ) → Der OBJECT_IDENTIFIER kind identifier → Der SEQUENCE identifier bytes → IsContent kind None bytes
+pub content_alone : (kind identifier bytes : List ℕ) → Der object_identifier_tag kind identifier → Der sequence_tag identifier bytes → IsContent kind None bytes
 content_alone kind identifier bytes is item = record {
   identifier = identifier;
   field = [];
@@ -72,12 +72,12 @@ content_alone kind identifier bytes is item = record {
 
 -- ---- attributes
 
-pub attributes_written : (kind content type_value digest_value first second bytes : List ℕ) → Der OBJECT_IDENTIFIER kind type_value →
-    IsAttribute (record { type = CONTENT_TYPE; values = type_value }) first → Der OCTET_STRING (sha256 content) digest_value →
-    IsAttribute (record { type = MESSAGE_DIGEST; values = digest_value }) second → Der SET (concat (first ∷ second ∷ [])) bytes →
+pub attributes_written : (kind content type_value digest_value first second bytes : List ℕ) → Der object_identifier_tag kind type_value →
+    IsAttribute (record { type = content_type_oid; values = type_value }) first → Der octet_string_tag (sha256 content) digest_value →
+    IsAttribute (record { type = message_digest_oid; values = digest_value }) second → Der set_tag (concat (first ∷ second ∷ [])) bytes →
     AreAttributesOf kind content bytes
 attributes_written kind content type_value digest_value first second bytes type is_first digest is_second set = record {
-  each = record { type = CONTENT_TYPE; values = type_value } ∷ record { type = MESSAGE_DIGEST; values = digest_value } ∷ [];
+  each = record { type = content_type_oid; values = type_value } ∷ record { type = message_digest_oid; values = digest_value } ∷ [];
   content = concat (first ∷ second ∷ []);
   are_attributes = (first, concat (second ∷ []), is_first, refl, (second, [], is_second, refl, refl));
   one_content_type = (type_value, refl, type);
@@ -98,16 +98,16 @@ one_valued type tag content value bytes item is = record {
 }
 
 -- another tag in place of the first byte
-retag : (content whole : List ℕ) → Der SET content whole → Der CONTEXT_CONSTRUCTED content (CONTEXT_CONSTRUCTED ∷ drop 1 whole)
+retag : (content whole : List ℕ) → Der set_tag content whole → Der context_constructed content (context_constructed ∷ drop 1 whole)
 retag content whole item = record {
   is_tag = (omega arith, λ e. absurd (omega arith));
   size = item.size;
   is_size = item.is_size;
-  spelled = ap (λ (x : List ℕ). CONTEXT_CONSTRUCTED ∷ drop 1 x) item.spelled;
+  spelled = ap (λ (x : List ℕ). context_constructed ∷ drop 1 x) item.spelled;
 }
 
 retagged : (kind content attributes : List ℕ) → AreAttributesOf kind content attributes →
-    HasAttributes CONTEXT_CONSTRUCTED (record { whole = CONTEXT_CONSTRUCTED ∷ drop 1 attributes; content_type = kind; digest = sha256 content })
+    HasAttributes context_constructed (record { whole = context_constructed ∷ drop 1 attributes; content_type = kind; digest = sha256 content })
 retagged kind content attributes are = record {
   each = are.each;
   content = are.content;
@@ -118,8 +118,8 @@ retagged kind content attributes are = record {
 }
 
 -- the first byte of the attributes is the tag that stands in its place
-pub tag_again : (kind content attributes : List ℕ) → AreAttributesOf kind content attributes → SET ∷ drop 1 attributes ≡ attributes
-tag_again kind content attributes are = ap (λ (x : List ℕ). SET ∷ drop 1 x) are.is_set.spelled ∙ sym are.is_set.spelled
+pub tag_again : (kind content attributes : List ℕ) → AreAttributesOf kind content attributes → set_tag ∷ drop 1 attributes ≡ attributes
+tag_again kind content attributes are = ap (λ (x : List ℕ). set_tag ∷ drop 1 x) are.is_set.spelled ∙ sym are.is_set.spelled
 
 -- ---- a signer
 
@@ -135,7 +135,7 @@ signer_says issuer serial attributes signature bytes is kind content are =
         version = is.version;
         identifier = is.identifier;
         digest_algorithm = is.digest_algorithm;
-        attributes = CONTEXT_CONSTRUCTED ∷ drop 1 attributes;
+        attributes = context_constructed ∷ drop 1 attributes;
         signature_algorithm = is.signature_algorithm;
         signature = is.octets;
         unsigned = [];
@@ -162,7 +162,7 @@ alone : {A : Type 0} (Is : A → List ℕ → Type 0) (value : A) (whole : List 
 alone Is value whole is = (whole, [], is, sym (append-nil whole), refl)
 
 pub message_says : (kind content signer bytes : List ℕ) (certs : List (List ℕ)) (whole : Signer) →
-    IsSignedByOne signer (content_of kind content certs) bytes → AreSequences MOST_CERTS certs → IsSigner whole signer →
+    IsSignedByOne signer (content_of kind content certs) bytes → AreSequences most_certs certs → IsSigner whole signer →
     IsSigned (message_signed kind content certs whole) bytes
 message_says kind content signer bytes certs whole by_one are is =
     let signed = by_one.is_signed in
@@ -183,19 +183,19 @@ message_says kind content signer bytes certs whole by_one are is =
         is_set = signed.are_algorithms;
       };
       is_content = signed.is_content;
-      are_certs = choices_written MOST_CERTS CONTEXT_CONSTRUCTED certs (concat certs) signed.certs refl signed.are_certs are;
+      are_certs = choices_written most_certs context_constructed certs (concat certs) signed.certs refl signed.are_certs are;
       are_crls = inl (signed.are_crls, refl);
       are_signers = record { content = signer; are_signers = alone IsSigner whole signer is; is_set = signed.are_signers; few = omega arith };
       is_sequence = signed.is_sequence;
     }
 
-lists_say : (crls : List (List ℕ)) (bytes : List ℕ) → IsListsField crls bytes → AreSequences MOST_CRLS crls →
-    IsChoicesField MOST_CRLS (CONTEXT_CONSTRUCTED + 1) crls bytes
+lists_say : (crls : List (List ℕ)) (bytes : List ℕ) → IsListsField crls bytes → AreSequences most_crls crls →
+    IsChoicesField most_crls (context_constructed + 1) crls bytes
 lists_say [] bytes is are = inl (is, refl)
-lists_say (crl ∷ crls) bytes is are = choices_written MOST_CRLS (CONTEXT_CONSTRUCTED + 1) (crl ∷ crls) (concat (crl ∷ crls)) bytes refl is are
+lists_say (crl ∷ crls) bytes is are = choices_written most_crls (context_constructed + 1) (crl ∷ crls) (concat (crl ∷ crls)) bytes refl is are
 
-pub certs_say : (certs crls : List (List ℕ)) (bytes : List ℕ) → IsWrittenSigned [] [] (alone_of certs crls) bytes → AreSequences MOST_CERTS certs →
-    AreSequences MOST_CRLS crls → IsSigned (certs_signed certs crls) bytes
+pub certs_say : (certs crls : List (List ℕ)) (bytes : List ℕ) → IsWrittenSigned [] [] (alone_of certs crls) bytes → AreSequences most_certs certs →
+    AreSequences most_crls crls → IsSigned (certs_signed certs crls) bytes
 certs_say certs crls bytes signed are_certs are_crls = record {
   parts = record {
     version = signed.version;
@@ -208,11 +208,12 @@ certs_say certs crls bytes signed are_certs are_crls = record {
   is_version = (1 ∷ [], single 1, signed.is_version);
   are_algorithms = record { algorithms = []; content = []; are_algorithms = refl; is_set = signed.are_algorithms };
   is_content = signed.is_content;
-  are_certs = choices_written MOST_CERTS CONTEXT_CONSTRUCTED certs (concat certs) signed.certs refl signed.are_certs are_certs;
+  are_certs = choices_written most_certs context_constructed certs (concat certs) signed.certs refl signed.are_certs are_certs;
   are_crls = lists_say crls signed.crls signed.are_crls are_crls;
   are_signers = record { content = []; are_signers = refl; is_set = signed.are_signers; few = omega arith };
   is_sequence = signed.is_sequence;
 }
 
-pub signed_info : (signed : Signed) (inner bytes : List ℕ) → IsSigned signed inner → IsContentInfo SIGNED_DATA inner bytes → InfoOf bytes (SignedData signed)
-signed_info signed inner bytes is info = record { type = SIGNED_DATA; inner = inner; is_content_info = info; holds = (refl, is) }
+pub signed_info : (signed : Signed) (inner bytes : List ℕ) → IsSigned signed inner → IsContentInfo signed_data_oid inner bytes → InfoOf bytes
+    (SignedData signed)
+signed_info signed inner bytes is info = record { type = signed_data_oid; inner = inner; is_content_info = info; holds = (refl, is) }

@@ -1,3 +1,5 @@
+pub mod Limits
+pub mod Identifiers
 pub mod Kind
 pub mod Known
 pub mod Message

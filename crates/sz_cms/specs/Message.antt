@@ -5,9 +5,9 @@ use Rattle.std.specs.List.{concat}
 use Rattle.sz_der.specs.Der.{Der}
 use Rattle.sz_der.specs.Integer.{IsInteger}
 use Rattle.sz_der.specs.Spots.{AreEach}
-use Rattle.sz_der.specs.declared.tag.TheConstants.{CONTEXT_CONSTRUCTED, CONTEXT_PRIMITIVE, INTEGER, OBJECT_IDENTIFIER, OCTET_STRING, SEQUENCE, SET}
-use Rattle.sz_cms.specs.declared.identifier.TheConstants.{CONTENT_TYPE, ENVELOPED_DATA, HSS_LMS, MESSAGE_DIGEST, SHA_256, SIGNED_DATA}
-use Rattle.sz_cms.specs.declared.info.TheConstants.{MOST_CERTS, MOST_CRLS, MOST_SIGNERS}
+use Rattle.sz_der.specs.Tags.{context_constructed, context_primitive, integer_tag, object_identifier_tag, octet_string_tag, sequence_tag, set_tag}
+use Rattle.sz_cms.specs.Identifiers.{content_type_oid, enveloped_data_oid, hss_lms_oid, message_digest_oid, sha_256_oid, signed_data_oid}
+use Rattle.sz_cms.specs.Limits.{most_certs, most_crls, most_signers}
 
 -- ---- what is kept of a message
 
@@ -58,7 +58,7 @@ IsOptional tag bytes = (bytes ≡ []) ⊎ ((content : List ℕ) × Der tag conte
 
 -- CMSVersion (10.2.5), of any value
 abbrev pub IsVersion : List ℕ → Type 0
-IsVersion bytes = (number : List ℕ) × IsInteger number × Der INTEGER number bytes
+IsVersion bytes = (number : List ℕ) × IsInteger number × Der integer_tag number bytes
 
 -- an algorithm: its identifier, and its parameters as a whole item or nothing
 pub record Algorithm : Type 0 where
@@ -68,33 +68,33 @@ pub record Algorithm : Type 0 where
 -- AlgorithmIdentifier (RFC 5280 section 4.1.1.2)
 pub record IsAlgorithm (algorithm : Algorithm) (bytes : List ℕ) : Type 0 where
   pub identifier : List ℕ
-  pub is_identifier : Der OBJECT_IDENTIFIER algorithm.identifier identifier
+  pub is_identifier : Der object_identifier_tag algorithm.identifier identifier
   pub is_parameters : (algorithm.parameters ≡ []) ⊎ IsItem algorithm.parameters
-  pub is_sequence : Der SEQUENCE (concat (identifier ∷ algorithm.parameters ∷ [])) bytes
+  pub is_sequence : Der sequence_tag (concat (identifier ∷ algorithm.parameters ∷ [])) bytes
 
 -- SHA-256, its parameters absent or NULL (RFC 5754 section 2)
 abbrev pub is_sha256 : Algorithm → Bool
 is_sha256 algorithm =
-    bytes_eq algorithm.identifier SHA_256
+    bytes_eq algorithm.identifier sha_256_oid
     && (bytes_eq algorithm.parameters [] || bytes_eq algorithm.parameters (5 ∷ 0 ∷ []))
 
 -- HSS/LMS, without parameters (RFC 8708 section 3)
 abbrev pub is_hss_lms : Algorithm → Bool
-is_hss_lms algorithm = bytes_eq algorithm.identifier HSS_LMS && bytes_eq algorithm.parameters []
+is_hss_lms algorithm = bytes_eq algorithm.identifier hss_lms_oid && bytes_eq algorithm.parameters []
 
 -- IssuerAndSerialNumber (10.2.4); the name is not looked into
 pub record IsIssuerSerial (issuer serial bytes : List ℕ) : Type 0 where
   pub names : List ℕ
   pub number : List ℕ
-  pub is_issuer : Der SEQUENCE names issuer
+  pub is_issuer : Der sequence_tag names issuer
   pub is_minimal : IsInteger serial
-  pub is_serial : Der INTEGER serial number
-  pub is_sequence : Der SEQUENCE (concat (issuer ∷ number ∷ [])) bytes
+  pub is_serial : Der integer_tag serial number
+  pub is_sequence : Der sequence_tag (concat (issuer ∷ number ∷ [])) bytes
 
 -- SignerIdentifier (5.3)
 abbrev pub IsIdentifier : Identifier → List ℕ → Type 0
 IsIdentifier (IssuerSerial issuer serial) bytes = IsIssuerSerial issuer serial bytes
-IsIdentifier (KeyId octets) bytes = Der CONTEXT_PRIMITIVE octets bytes
+IsIdentifier (KeyId octets) bytes = Der context_primitive octets bytes
 
 -- an attribute: the octets of its type, and its values one after another
 pub record Attribute : Type 0 where
@@ -105,9 +105,9 @@ pub record Attribute : Type 0 where
 pub record IsAttribute (attribute : Attribute) (bytes : List ℕ) : Type 0 where
   pub identifier : List ℕ
   pub set : List ℕ
-  pub is_identifier : Der OBJECT_IDENTIFIER attribute.type identifier
-  pub is_set : Der SET attribute.values set
-  pub is_sequence : Der SEQUENCE (concat (identifier ∷ set ∷ [])) bytes
+  pub is_identifier : Der object_identifier_tag attribute.type identifier
+  pub is_set : Der set_tag attribute.values set
+  pub is_sequence : Der sequence_tag (concat (identifier ∷ set ∷ [])) bytes
 
 -- the values of the attributes of a type
 abbrev pub values_of : List ℕ → List Attribute → List (List ℕ)
@@ -124,14 +124,14 @@ pub record HasAttributes (tag : ℕ) (attributes : SignedAttributes) : Type 0 wh
   pub each : List Attribute
   pub content : List ℕ
   pub are_attributes : AreEach IsAttribute each content
-  pub one_content_type : HasOne CONTENT_TYPE OBJECT_IDENTIFIER attributes.content_type each
-  pub one_digest : HasOne MESSAGE_DIGEST OCTET_STRING attributes.digest each
+  pub one_content_type : HasOne content_type_oid object_identifier_tag attributes.content_type each
+  pub one_digest : HasOne message_digest_oid octet_string_tag attributes.digest each
   pub is_set : Der tag content attributes.whole
 
 -- the field of signed attributes, `[0]` in place of the tag of SET, which need not be there
 abbrev pub IsAttributesField : Option SignedAttributes → List ℕ → Type 0
 IsAttributesField None bytes = bytes ≡ []
-IsAttributesField (Some attributes) bytes = HasAttributes CONTEXT_CONSTRUCTED attributes × (bytes ≡ attributes.whole)
+IsAttributesField (Some attributes) bytes = HasAttributes context_constructed attributes × (bytes ≡ attributes.whole)
 
 -- The parts of SignerInfo (5.3) that nothing else is kept of.
 pub record SignerParts : Type 0 where
@@ -164,9 +164,9 @@ pub record IsSigner (signer : Signer) (bytes : List ℕ) : Type 0 where
   pub is_identifier : IsIdentifier signer.identifier parts.identifier
   pub has_algorithms : HasAlgorithms signer.by_hss parts.digest_algorithm parts.signature_algorithm
   pub is_attributes : IsAttributesField signer.attributes parts.attributes
-  pub is_signature : Der OCTET_STRING signer.signature parts.signature
-  pub is_unsigned : IsOptional (CONTEXT_CONSTRUCTED + 1) parts.unsigned
-  pub is_sequence : Der SEQUENCE (concat (signer_parts parts)) bytes
+  pub is_signature : Der octet_string_tag signer.signature parts.signature
+  pub is_unsigned : IsOptional (context_constructed + 1) parts.unsigned
+  pub is_sequence : Der sequence_tag (concat (signer_parts parts)) bytes
 
 -- ---- signed data
 
@@ -175,13 +175,13 @@ pub record AreAlgorithms (bytes : List ℕ) : Type 0 where
   pub algorithms : List Algorithm
   pub content : List ℕ
   pub are_algorithms : AreEach IsAlgorithm algorithms content
-  pub is_set : Der SET content bytes
+  pub is_set : Der set_tag content bytes
 
 -- `[0]` and an OCTET STRING
 pub record IsExplicitOctets (octets bytes : List ℕ) : Type 0 where
   pub inner : List ℕ
-  pub is_octets : Der OCTET_STRING octets inner
-  pub is_explicit : Der CONTEXT_CONSTRUCTED inner bytes
+  pub is_octets : Der octet_string_tag octets inner
+  pub is_explicit : Der context_constructed inner bytes
 
 -- the field of the content, which need not be there (5.2)
 abbrev pub IsContentField : Option (List ℕ) → List ℕ → Type 0
@@ -192,13 +192,13 @@ IsContentField (Some content) bytes = IsExplicitOctets content bytes
 pub record IsContent (kind : List ℕ) (content : Option (List ℕ)) (bytes : List ℕ) : Type 0 where
   pub identifier : List ℕ
   pub field : List ℕ
-  pub is_identifier : Der OBJECT_IDENTIFIER kind identifier
+  pub is_identifier : Der object_identifier_tag kind identifier
   pub is_field : IsContentField content field
-  pub is_sequence : Der SEQUENCE (concat (identifier ∷ field ∷ [])) bytes
+  pub is_sequence : Der sequence_tag (concat (identifier ∷ field ∷ [])) bytes
 
 -- the SEQUENCEs among items
 abbrev pub sequences_of : List (List ℕ) → List (List ℕ)
-sequences_of items = filter (λ item. slice_index item 0 == SEQUENCE) items
+sequences_of items = filter (λ item. slice_index item 0 == sequence_tag) items
 
 -- items one after another, of which the SEQUENCEs are kept, at most so many; others are other choices (10.2.1, 10.2.2)
 pub record AreChoices (most : ℕ) (kept : List (List ℕ)) (content : List ℕ) : Type 0 where
@@ -216,8 +216,8 @@ IsChoicesField most tag kept bytes =
 pub record AreSigners (signers : List Signer) (bytes : List ℕ) : Type 0 where
   pub content : List ℕ
   pub are_signers : AreEach IsSigner signers content
-  pub is_set : Der SET content bytes
-  pub few : length signers ≤ MOST_SIGNERS
+  pub is_set : Der set_tag content bytes
+  pub few : length signers ≤ most_signers
 
 -- The parts of SignedData (5.1).
 pub record SignedParts : Type 0 where
@@ -239,10 +239,10 @@ pub record IsSigned (signed : Signed) (bytes : List ℕ) : Type 0 where
   pub is_version : IsVersion parts.version
   pub are_algorithms : AreAlgorithms parts.algorithms
   pub is_content : IsContent signed.kind signed.content parts.content
-  pub are_certs : IsChoicesField MOST_CERTS CONTEXT_CONSTRUCTED signed.certs parts.certs
-  pub are_crls : IsChoicesField MOST_CRLS (CONTEXT_CONSTRUCTED + 1) signed.crls parts.crls
+  pub are_certs : IsChoicesField most_certs context_constructed signed.certs parts.certs
+  pub are_crls : IsChoicesField most_crls (context_constructed + 1) signed.crls parts.crls
   pub are_signers : AreSigners signed.signers parts.signers
-  pub is_sequence : Der SEQUENCE (concat (signed_parts parts)) bytes
+  pub is_sequence : Der sequence_tag (concat (signed_parts parts)) bytes
 
 -- ---- the message
 
@@ -250,20 +250,20 @@ pub record IsSigned (signed : Signed) (bytes : List ℕ) : Type 0 where
 pub record IsContentInfo (kind inner bytes : List ℕ) : Type 0 where
   pub identifier : List ℕ
   pub field : List ℕ
-  pub is_identifier : Der OBJECT_IDENTIFIER kind identifier
-  pub is_field : Der CONTEXT_CONSTRUCTED inner field
-  pub is_sequence : Der SEQUENCE (concat (identifier ∷ field ∷ [])) bytes
+  pub is_identifier : Der object_identifier_tag kind identifier
+  pub is_field : Der context_constructed inner field
+  pub is_sequence : Der sequence_tag (concat (identifier ∷ field ∷ [])) bytes
 
 -- what is kept of a content that isn't signed: the octets of an OCTET STRING (4); enveloped data is not looked into
 pub record HoldsPlain (kind content inner : List ℕ) : Type 0 where
-  pub not_signed : kind ≢ SIGNED_DATA
-  pub enveloped : kind ≡ ENVELOPED_DATA → content ≡ []
-  pub octets : kind ≢ ENVELOPED_DATA → Der OCTET_STRING content inner
+  pub not_signed : kind ≢ signed_data_oid
+  pub enveloped : kind ≡ enveloped_data_oid → content ≡ []
+  pub octets : kind ≢ enveloped_data_oid → Der octet_string_tag content inner
 
 -- the content of ContentInfo, by its type
 abbrev pub Holds : Info → List ℕ → List ℕ → Type 0
 Holds (Plain kind content) type inner = (type ≡ kind) × HoldsPlain kind content inner
-Holds (SignedData signed) type inner = (type ≡ SIGNED_DATA) × IsSigned signed inner
+Holds (SignedData signed) type inner = (type ≡ signed_data_oid) × IsSigned signed inner
 
 -- the bytes are this message, and nothing behind it
 pub record InfoOf (bytes : List ℕ) (info : Info) : Type 0 where

@@ -4,13 +4,13 @@ use Rattle.std.specs.List.{AllByRecursion}
 use Rattle.sha2.specs.Sha256.{sha256}
 use Rattle.sz_der.specs.Der.{Der}
 use Rattle.sz_der.specs.Integer.{IsInteger}
-use Rattle.sz_der.specs.declared.tag.TheConstants.{CONTEXT_CONSTRUCTED, SEQUENCE, SET}
+use Rattle.sz_der.specs.Tags.{context_constructed, sequence_tag, set_tag}
 use Rattle.sz_cms.specs.Message.{HasAttributes, IssuerSerial, Signed, SignedAttributes, Signer}
-use Rattle.sz_cms.specs.declared.identifier.TheConstants.{DATA}
+use Rattle.sz_cms.specs.Identifiers.{data_oid}
 
 -- one SEQUENCE
 abbrev pub IsSequence : List ℕ → Type 0
-IsSequence bytes = (content : List ℕ) × Der SEQUENCE content bytes
+IsSequence bytes = (content : List ℕ) × Der sequence_tag content bytes
 
 -- at most so many, each one SEQUENCE
 pub record AreSequences (most : ℕ) (items : List (List ℕ)) : Type 0 where
@@ -25,12 +25,12 @@ pub record NamesSigner (issuer serial : List ℕ) : Type 0 where
 -- the attributes that a signer of the content signs, under the tag of SET
 abbrev pub AreAttributesOf : List ℕ → List ℕ → List ℕ → Type 0
 AreAttributesOf kind content attributes =
-    HasAttributes SET (record { whole = attributes; content_type = kind; digest = sha256 content })
+    HasAttributes set_tag (record { whole = attributes; content_type = kind; digest = sha256 content })
 
 -- those attributes in the message, under the tag of `[0]`
 abbrev pub written_attributes : List ℕ → List ℕ → List ℕ → SignedAttributes
 written_attributes kind content attributes =
-    record { whole = CONTEXT_CONSTRUCTED ∷ drop 1 attributes; content_type = kind; digest = sha256 content }
+    record { whole = context_constructed ∷ drop 1 attributes; content_type = kind; digest = sha256 content }
 
 -- the signer of a signed message
 abbrev pub written_signer : List ℕ → List ℕ → List ℕ → List ℕ → List ℕ → List ℕ → Signer
@@ -48,4 +48,4 @@ message_signed kind content certs signer =
 
 -- the signed data of certificates and revocation lists alone
 abbrev pub certs_signed : List (List ℕ) → List (List ℕ) → Signed
-certs_signed certs crls = record { kind = DATA; content = None; certs = certs; crls = crls; signers = [] }
+certs_signed certs crls = record { kind = data_oid; content = None; certs = certs; crls = crls; signers = [] }

@@ -2,7 +2,7 @@
 use Rattle.std.specs.Prelude.{◌≡◌, ℕ, ◌+◌, List, [], ◌∷◌, ◌++◌, length, pos}
 use Rattle.sz_der.specs.Der.{Der, StandsAt, IsLength}
 use Rattle.sz_der.specs.Integer.{IsIntegerOf}
-use Rattle.sz_der.specs.declared.tag.TheConstants.{INTEGER}
+use Rattle.sz_der.specs.Tags.{integer_tag}
 
 -- the new bytes are the old ones with the octets of a length more
 pub record AppendsSize (old new : List ℕ) (size : ℕ) : Type 0 where
@@ -20,7 +20,7 @@ pub record AppendsItem (old new : List ℕ) (tag : ℕ) (content : List ℕ) : T
 pub record AppendsInteger (old new : List ℕ) (value : ℕ) : Type 0 where
   pub content : List ℕ
   pub is_integer : IsIntegerOf (pos value) content
-  pub item : AppendsItem old new INTEGER content
+  pub item : AppendsItem old new integer_tag content
 
 -- one after another, each written after those before it
 abbrev pub AppendsItems : List ℕ → List ℕ → List (ℕ × List ℕ) → Type 0

@@ -1,3 +1,4 @@
+pub mod Tags
 pub mod Content
 pub mod Der
 pub mod Fault

@@ -2,7 +2,7 @@
 -- section 4.1.2.5).
 use Rattle.std.specs.Prelude.{◌≡◌, ℕ, ◌+◌, ◌/◌, ◌%◌, ◌⊎◌, List, [], ◌∷◌, ◌++◌, pos, ◌≤ℤ◌, unsigned_abs}
 use Rattle.sz_calendar.specs.CivilTime.{CivilTime, IsReal}
-use Rattle.sz_der.specs.declared.tag.TheConstants.{UTC_TIME, GENERALIZED_TIME}
+use Rattle.sz_der.specs.Tags.{generalized_time_tag, utc_time_tag}
 
 -- the two decimal digits of a number below 100, in ASCII
 unfoldable pub two_digits : ℕ → List ℕ
@@ -47,4 +47,4 @@ pub record IsGeneralizedTime (time : CivilTime) (content : List ℕ) : Type 0 wh
 -- an item with this tag and content names the time, by its type
 abbrev pub NamesTime : ℕ → List ℕ → CivilTime → Type 0
 NamesTime tag content time =
-    ((tag ≡ UTC_TIME) × IsUtcTime time content) ⊎ ((tag ≡ GENERALIZED_TIME) × IsGeneralizedTime time content)
+    ((tag ≡ utc_time_tag) × IsUtcTime time content) ⊎ ((tag ≡ generalized_time_tag) × IsGeneralizedTime time content)

@@ -1,6 +1,4 @@
-//! Why bytes were not read, and want of memory.
-
-use std::alloc::AllocError;
+//! Why bytes were not read.
 
 /// Why bytes were not read.
 #[derive(Clone, Copy, Debug, PartialEq, Eq)]
@@ -24,20 +22,4 @@ pub struct DerFault {
     pub kind: DerKind,
     /// The place of the item's tag.
     pub place: usize,
-}
-
-/// Memory ran out, or a content is longer than four octets can tell.
-#[derive(Clone, Copy, Debug, PartialEq, Eq)]
-pub struct OutOfMemory;
-
-impl From<AllocError> for OutOfMemory {
-    fn from(_: AllocError) -> Self {
-        OutOfMemory
-    }
-}
-
-impl From<OutOfMemory> for sz_base::OutOfMemory {
-    fn from(_: OutOfMemory) -> Self {
-        sz_base::OutOfMemory
-    }
 }

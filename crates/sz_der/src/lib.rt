@@ -21,7 +21,7 @@ mod times;
 mod typed;
 mod writer;
 
-pub use fault::{DerFault, DerKind, OutOfMemory};
+pub use fault::{DerFault, DerKind};
 pub use integers::{integer, integer_u32};
 pub use item::{Item, next};
 pub use laws::{

@@ -3,11 +3,10 @@
 ghost use Rattle.std.specs.Prelude.{◌≡◌, ◌≢◌, ◌+◌, ◌%◌, ◌^◌, ◌≤◌, ℕ, List, [], length, vec_capacity, vec_len, IsOkAnd, OnOk, OnErr, IsErr};
 ghost use Rattle.sz_der.specs.Items.{AppendsInteger, AppendsItem, AppendsSize};
 
-use crate::OutOfMemory;
 use crate::tag::INTEGER;
 use std::alloc::Global;
 use std::marker::Model;
-use sz_base::Bytes;
+use sz_base::{Bytes, OutOfMemory};
 
 /// Items written one after another. Contracts see it as the bytes so far.
 #[derive(Debug, Drop)]

@@ -2,13 +2,9 @@
 use Rattle.std.specs.Prelude.{◌≡◌, ◌≤◌, ℕ, List, [], ◌∷◌, length}
 use Rattle.sz_base.specs.declared.fault.BaseFault.{BaseFault}
 use Rattle.sz_base.specs.declared.fault.BaseFault.TheVariants.{Form, OutOfMemory}
-use Rattle.sz_source.specs.Source.{IsSource}
+use Rattle.sz_source.specs.Source.{IsSource, most_sources}
 use Rattle.sz_source.specs.declared.source.Source.{Source}
 use Rattle.sz_source.specs.declared.source.Source.TheVariants.{Dhcp4, Dhcp6, Dns}
-
--- how many sources a device may be given
-abbrev pub most_sources : ℕ
-most_sources = 16
 
 -- the message of the source stands in the file of the disk that this word names, which is `@` and the file's path
 abbrev pub IsInFileOf : List ℕ → Source → Type 0

@@ -2,7 +2,7 @@
 ghost use Rattle.std.specs.Prelude.{◌≤◌, length};
 ghost use Rattle.sz_commands.specs.Objects.{clock_seen, entropy_seen, folder_seen, net_seen};
 ghost use Rattle.sz_device.specs.Booted.{Booted};
-ghost use Rattle.sz_device.specs.Sources.{most_sources};
+ghost use Rattle.sz_source.specs.Source.{most_sources};
 ghost use Rattle.sz_device.specs.View.{answer_of, beside};
 
 use crate::sizes::check_size;

@@ -11,7 +11,7 @@ use Rattle.sz_dhcp.specs.Message4.{FieldBreaksAt, file_field, HasCookie, HasOpti
 use Rattle.sz_dhcp.specs.Spelled.{EndsInside}
 use Rattle.sz_dhcp.specs.UriList.{ListBreaksAt}
 use Rattle.sz_dhcp.proofs.Joined.{breaks_there, IsReadUpTo, nothing_behind}
-use Rattle.sz_dhcp.specs.declared.message4.TheConstants.{FILE, OVERLOAD, SNAME}
+use Rattle.sz_dhcp.specs.Codes4.{overload_code, overloads_file, overloads_sname}
 use Rattle.sz_dhcp.specs.declared.fault.DhcpFault.{DhcpFault}
 use Rattle.sz_dhcp.specs.declared.fault.DhcpKind.{DhcpKind}
 use Rattle.sz_dhcp.specs.declared.fault.DhcpKind.TheVariants.{Short, Uri}
@@ -45,7 +45,7 @@ pub fault_in_file : (message : List ℕ) (fault : DhcpFault) (options : List Dhc
 fault_in_file message fault options cookie own is kind place e =
     let found = is kind place e in
     let long = cookie.long in
-    let at = part_place (holds_options FILE (values_of OVERLOAD options)) message 108 236 kind place (omega arith) (omega arith) found in
+    let at = part_place (holds_options overloads_file (values_of overload_code options)) message 108 236 kind place (omega arith) (omega arith) found in
     placed message 108 found.offset kind place found.short at (in_file cookie own found.breaks)
 
 pub fault_in_sname : (message : List ℕ) (fault : DhcpFault) (options file : List DhcpOption) → HasCookie message
@@ -54,7 +54,7 @@ pub fault_in_sname : (message : List ℕ) (fault : DhcpFault) (options file : Li
 fault_in_sname message fault options file cookie own read is kind place e =
     let found = is kind place e in
     let long = cookie.long in
-    let at = part_place (holds_options SNAME (values_of OVERLOAD options)) message 44 108 kind place (omega arith) (omega arith) found in
+    let at = part_place (holds_options overloads_sname (values_of overload_code options)) message 44 108 kind place (omega arith) (omega arith) found in
     placed message 44 found.offset kind place found.short at (in_sname cookie own read found.breaks)
 
 -- the values of three fields, one after another
@@ -66,9 +66,9 @@ three_fields code options file sname one two list first second third =
     ∙ sym (flat_map-append (value_with code) options file)) ∙ sym (flat_map-append (value_with code) (options ++ file) sname)
 
 -- the field that is read, by what option 52 says
-pub field_is : (number : ℕ) (message bytes overload : List ℕ) (options : List DhcpOption) (start end : ℕ) → overload ≡ values_of OVERLOAD options
+pub field_is : (number : ℕ) (message bytes overload : List ℕ) (options : List DhcpOption) (start end : ℕ) → overload ≡ values_of overload_code options
     → bytes ≡ cond (holds_options number overload) (slice_range message start end) []
-    → bytes ≡ cond (holds_options number (values_of OVERLOAD options)) (slice_range message start end) []
+    → bytes ≡ cond (holds_options number (values_of overload_code options)) (slice_range message start end) []
 field_is number message bytes overload options start end told is =
     is ∙ ap (λ (o : List ℕ). cond (holds_options number o) (slice_range message start end) []) told
 

@@ -4,7 +4,7 @@ use Rattle.std.proofs.lemmas.List.{length-replicate, nil_from_length}
 use Rattle.sz_dhcp.specs.DhcpOption.{DhcpOption}
 use Rattle.sz_dhcp.specs.Message4.{FieldBreaksAt, IsEnd, IsField, IsOption, IsSized, IsUnfinishedValue}
 use Rattle.sz_dhcp.specs.Spelled.{BeginsWith, EndsInside}
-use Rattle.sz_dhcp.specs.declared.message4.TheConstants.{END, PAD}
+use Rattle.sz_dhcp.specs.Codes4.{end_code, pad_code}
 use Rattle.sz_dhcp.proofs.Entries.{same_fronts}
 use Rattle.sz_dhcp.proofs.Joined.{AreApart, one_break, same_reading, Stops, Stops-inside}
 
@@ -20,7 +20,7 @@ first_byte option own (inl pad) = ([], rw pad.code pad.spelled)
 first_byte option own (inr sized) = (length option.value ∷ option.value, sized.spelled)
 
 -- no option begins like the end
-no_end : (option : DhcpOption) (own : List ℕ) → IsOption option own → option.code ≢ END
+no_end : (option : DhcpOption) (own : List ℕ) → IsOption option own → option.code ≢ end_code
 no_end option own (inl pad) e = let zero = sym pad.code ∙ e in cc zero
 no_end option own (inr sized) e = sized.no_end e
 
@@ -61,7 +61,7 @@ options_stop bytes (inl none) item own after spelled e =
 options_stop bytes (inr ends) item own after spelled e =
     let first = first_byte item own spelled in
     let whole = rw (ends.1, first.1) at e in
-    let code : item.code ≡ END = cc whole in
+    let code : item.code ≡ end_code = cc whole in
     no_end item own spelled code
 
 -- a field has one list of options
@@ -79,9 +79,9 @@ no_end_inside rest (inl none) inside = inside.begun none
 no_end_inside rest (inr ends) inside =
     let cut = inside.unfinished in
     let first = first_byte cut.item (rest ++ cut.missing) cut.whole in
-    let whole : END ∷ (ends.0 ++ cut.missing) ≡ cut.item.code ∷ first.0 =
+    let whole : end_code ∷ (ends.0 ++ cut.missing) ≡ cut.item.code ∷ first.0 =
     ap (λ (xs : List ℕ). xs ++ cut.missing) (sym ends.1) ∙ first.1 in
-    let code : cut.item.code ≡ END = cc whole in
+    let code : cut.item.code ≡ end_code = cc whole in
     no_end cut.item (rest ++ cut.missing) cut.whole code
 
 -- and never both
@@ -94,14 +94,14 @@ field_or_break bytes options place a b =
 
 -- ---- what stands at the front
 
-pub begins_pad : (bytes rest : List ℕ) → bytes ≡ PAD ∷ rest → BeginsWith IsOption bytes (record { code = PAD; value = [] }) rest
+pub begins_pad : (bytes rest : List ℕ) → bytes ≡ pad_code ∷ rest → BeginsWith IsOption bytes (record { code = pad_code; value = [] }) rest
 begins_pad bytes rest front = record {
-  own = PAD ∷ [];
+  own = pad_code ∷ [];
   spelled = inl (record { code = refl; empty = refl; spelled = refl });
   joined = front;
 }
 
-pub begins_sized : (bytes value rest : List ℕ) (code : ℕ) → code ≢ PAD → code ≢ END
+pub begins_sized : (bytes value rest : List ℕ) (code : ℕ) → code ≢ pad_code → code ≢ end_code
     → bytes ≡ code ∷ length value ∷ value ++ rest → BeginsWith IsOption bytes (record { code = code; value = value }) rest
 begins_sized bytes value rest code no_pad no_end front = record {
   own = code ∷ length value ∷ value;
@@ -110,7 +110,7 @@ begins_sized bytes value rest code no_pad no_end front = record {
 }
 
 -- an option ends too early where its value does
-pub inside_of : (bytes after : List ℕ) (code : ℕ) → code ≢ PAD → code ≢ END → bytes ≡ code ∷ after → IsUnfinishedValue after
+pub inside_of : (bytes after : List ℕ) (code : ℕ) → code ≢ pad_code → code ≢ end_code → bytes ≡ code ∷ after → IsUnfinishedValue after
     → EndsInside IsOption bytes
 inside_of bytes after code no_pad no_end front cut = record {
   begun = λ none. let e = sym none ∙ front in cc e;

@@ -7,7 +7,7 @@ use Rattle.sz_dhcp.specs.Message6.{BeginsWithOptions, Gives6, GivesTargets, HasB
 use Rattle.sz_dhcp.specs.Spelled.{Joined}
 use Rattle.sz_dhcp.specs.UriList.{ListsTargets}
 use Rattle.sz_dhcp.specs.declared.fault.DhcpKind.{DhcpKind}
-use Rattle.sz_dhcp.specs.declared.message6.TheConstants.{HEADER, SZTP_REDIRECT}
+use Rattle.sz_dhcp.specs.Codes6.{header_bytes, redirect_code6}
 use Rattle.sz_dhcp.proofs.Joined.{joined_once, same_reading, same_step, Stops, Stops-inside}
 use Rattle.sz_dhcp.proofs.Lists.{list_or_break, one_list, one_list_break}
 use Rattle.sz_dhcp.proofs.Options6.{options_apart, options_stop}
@@ -19,7 +19,7 @@ one_where true bytes own others a b = one_list bytes own others a b
 one_where false bytes own others a b = a ∙ sym b
 
 one_of_option : (option : DhcpOption) (own others : List Target) → GivesTargets option own → GivesTargets option others → own ≡ others
-one_of_option option own others a b = one_where (eqb option.code SZTP_REDIRECT) option.value own others a b
+one_of_option option own others a b = one_where (eqb option.code redirect_code6) option.value own others a b
 
 -- an option whose list is at fault gives nothing
 good_is_not_bad : (bytes : List ℕ) (place : ℕ) (bad : HasBadList bytes place) (option : DhcpOption) (own : List Target)
@@ -124,4 +124,4 @@ one_fault6 message kind other place at (in_option {options = options} {targets =
     (in_option {options = others} {targets = second} {front = last} {rest = more} again ends) =
     let same = same_front message options others targets second front last rest more begins again
     (Stops-inside IsOption options_apart rest inside) (Stops-inside IsOption options_apart more ends) in
-    (refl, ap (λ (xs : List ℕ). HEADER + length xs) same.1)
+    (refl, ap (λ (xs : List ℕ). header_bytes + length xs) same.1)

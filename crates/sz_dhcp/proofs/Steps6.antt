@@ -8,7 +8,7 @@ use Rattle.sz_dhcp.specs.Spelled.{BeginsWith, EndsInside}
 use Rattle.sz_dhcp.specs.UriList.{ListBreaksAt}
 use Rattle.sz_dhcp.specs.declared.fault.DhcpFault.{DhcpFault}
 use Rattle.sz_dhcp.specs.declared.fault.DhcpKind.TheVariants.{Short, Uri}
-use Rattle.sz_dhcp.specs.declared.message6.TheConstants.{HEADER, SZTP_REDIRECT}
+use Rattle.sz_dhcp.specs.Codes6.{header_bytes, redirect_code6}
 use Rattle.sz_dhcp.proofs.Joined.{Joined-push}
 
 -- an option that ends too early
@@ -21,13 +21,13 @@ fault_in_option message front left fault options targets begins is kind place e 
     let kinds = found.0 in
     let at = found.2 in
     let long = begins.long in
-    let places : place ≡ HEADER + length front = omega (arith, ap length begins.joined, length-append front left, length-drop HEADER message) in
+    let places : place ≡ header_bytes + length front = omega (arith, ap length begins.joined, length-append front left, length-drop header_bytes message) in
     rw (kinds, places) (in_option begins found.1)
 
 -- a list at fault
 pub fault_in_its_list : (message front left rest : List ℕ) (fault : DhcpFault) (options : List DhcpOption) (targets : List Target) (item : DhcpOption)
     → BeginsWithOptions message options targets front left → BeginsWith IsOption left item rest
-    → IsFault (λ kind place. (kind ≡ Uri) × (item.code ≡ SZTP_REDIRECT) × ListBreaksAt item.value place) fault
+    → IsFault (λ kind place. (kind ≡ Uri) × (item.code ≡ redirect_code6) × ListBreaksAt item.value place) fault
     → IsFault (IsFault6 message) fault
 fault_in_its_list message front left rest fault options targets item begins first is kind place e =
     let found = is kind place e in

@@ -1,3 +1,5 @@
+pub mod Codes6
+pub mod Codes4
 pub mod DhcpOption
 pub mod Fault
 pub mod Message4

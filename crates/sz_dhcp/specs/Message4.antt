@@ -7,20 +7,20 @@ use Rattle.sz_base.specs.declared.target.Target.{Target}
 use Rattle.sz_dhcp.specs.DhcpOption.{DhcpOption}
 use Rattle.sz_dhcp.specs.Spelled.{BreaksAt, Joined}
 use Rattle.sz_dhcp.specs.UriList.{ListBreaksAt, ListsTargets}
-use Rattle.sz_dhcp.specs.declared.message4.TheConstants.{BOTH, COOKIE, END, FILE, OVERLOAD, PAD, SNAME, SZTP_REDIRECT}
+use Rattle.sz_dhcp.specs.Codes4.{end_code, magic_cookie, overload_code, overloads_both, overloads_file, overloads_sname, pad_code, redirect_code}
 use Rattle.sz_dhcp.specs.declared.fault.DhcpKind.{DhcpKind}
 use Rattle.sz_dhcp.specs.declared.fault.DhcpKind.TheVariants.{Short, Cookie, Uri}
 
 -- the pad option, which is its code alone (RFC 2132 section 3.1)
 pub record IsPad (option : DhcpOption) (bytes : List ℕ) : Type 0 where
-  pub code : option.code ≡ PAD
+  pub code : option.code ≡ pad_code
   pub empty : option.value ≡ []
-  pub spelled : bytes ≡ PAD ∷ []
+  pub spelled : bytes ≡ pad_code ∷ []
 
 -- any option with a value: its code, the length of the value, and the value (RFC 2132 section 2)
 pub record IsSized (option : DhcpOption) (bytes : List ℕ) : Type 0 where
-  pub no_pad : option.code ≢ PAD
-  pub no_end : option.code ≢ END
+  pub no_pad : option.code ≢ pad_code
+  pub no_end : option.code ≢ end_code
   pub spelled : bytes ≡ option.code ∷ length option.value ∷ option.value
 
 -- the bytes are the beginning of a length and a value, and not all of them
@@ -35,7 +35,7 @@ IsOption option bytes = IsPad option bytes ⊎ IsSized option bytes
 
 -- nothing, or the end option, after which nothing is read (RFC 2132 section 3.2)
 abbrev pub IsEnd : List ℕ → Type 0
-IsEnd bytes = (bytes ≡ []) ⊎ ((after : List ℕ) × (bytes ≡ END ∷ after))
+IsEnd bytes = (bytes ≡ []) ⊎ ((after : List ℕ) × (bytes ≡ end_code ∷ after))
 
 -- the bytes of a field are these options, and then the end
 pub record IsField (bytes : List ℕ) (options : List DhcpOption) : Type 0 where
@@ -71,22 +71,22 @@ options_field message = drop 240 message
 
 -- option 52 says 1 where `file` holds options, 2 where `sname` does, 3 where both do (RFC 2132 section 9.3)
 abbrev pub holds_options : ℕ → List ℕ → Bool
-holds_options field overload = bytes_eq overload (field ∷ []) || bytes_eq overload (BOTH ∷ [])
+holds_options field overload = bytes_eq overload (field ∷ []) || bytes_eq overload (overloads_both ∷ [])
 
 -- the field `file`, where the options say that it holds options, else nothing
 abbrev pub file_field : List DhcpOption → List ℕ → List ℕ
 file_field options message =
-    if holds_options FILE (values_of OVERLOAD options) then slice_range message 108 236 else []
+    if holds_options overloads_file (values_of overload_code options) then slice_range message 108 236 else []
 
 -- the field `sname`, where the options say that it holds options, else nothing
 abbrev pub sname_field : List DhcpOption → List ℕ → List ℕ
 sname_field options message =
-    if holds_options SNAME (values_of OVERLOAD options) then slice_range message 44 108 else []
+    if holds_options overloads_sname (values_of overload_code options) then slice_range message 44 108 else []
 
 -- the message is long enough, and has the cookie of DHCP before its options
 pub record HasCookie (message : List ℕ) : Type 0 where
   pub long : 240 ≤ length message
-  pub cookie : slice_range message 236 240 ≡ COOKIE
+  pub cookie : slice_range message 236 240 ≡ magic_cookie
 
 -- the options of a message: those of its options field, of `file` and of `sname`
 pub record HasOptions (message : List ℕ) (options file sname : List DhcpOption) : Type 0 where
@@ -97,7 +97,7 @@ pub record HasOptions (message : List ℕ) (options file sname : List DhcpOption
 
 -- the list of bootstrap servers: the values of option 143 in all the fields, joined
 abbrev pub server_list : List DhcpOption → List DhcpOption → List DhcpOption → List ℕ
-server_list options file sname = values_of SZTP_REDIRECT (options ++ file ++ sname)
+server_list options file sname = values_of redirect_code (options ++ file ++ sname)
 
 -- the message gives these targets
 pub record Gives4 (message : List ℕ) (targets : List Target) : Type 0 where
@@ -113,7 +113,7 @@ pub record Gives4 (message : List ℕ) (targets : List Target) : Type 0 where
 -- message, or for `Uri` of the joined list.
 pub data IsFault4 (message : List ℕ) : DhcpKind → ℕ → Type 0 where
   too_short : length message < 240 → IsFault4 message Short 0
-  no_cookie : 240 ≤ length message → slice_range message 236 240 ≢ COOKIE → IsFault4 message Cookie 236
+  no_cookie : 240 ≤ length message → slice_range message 236 240 ≢ magic_cookie → IsFault4 message Cookie 236
   in_options : {place : ℕ} → HasCookie message → FieldBreaksAt (options_field message) place
       → IsFault4 message Short (240 + place)
   in_file : {place : ℕ} {options : List DhcpOption} → HasCookie message → IsField (options_field message) options

@@ -1,8 +1,8 @@
 -- What comes between two runs on a disk, for other crates too: what it tells of the images that a crash may leave.
-use Rattle.std.proofs.Common.{◌≡◌, ◌⊎◌, ℕ, ◌+◌, ◌≤◌, List, [], length, Some, is_some, refl, sym, ap, ◌∙◌, subst, inl, inr, ⊎_elim, arith}
+use Rattle.std.proofs.Common.{◌≡◌, ◌⊎◌, ℕ, ◌≤◌, List, [], Some, is_some, refl, sym, ap, subst, inl, inr, ⊎_elim}
 use Rattle.std.proofs.lemmas.List.{ext_get_or}
 use Rattle.sz_disk.specs.Between.{GoesOn, Killed, PoweredUp}
-use Rattle.sz_disk.specs.Disk.{Seen, IsLawful, IsSettled, IsStill, LeavesOnly}
+use Rattle.sz_disk.specs.Disk.{Seen, IsLawful, IsStill, LeavesOnly}
 use Rattle.sz_disk.specs.Event.{Leaves, seen_after}
 use Rattle.sz_disk.proofs.Moments.{counts_now, quiet-none}
 use Rattle.sz_disk.specs.declared.event.Event.{Event}

@@ -4,7 +4,7 @@ use Rattle.std.proofs.lemmas.List.{get_or-take, length-take-le}
 use Rattle.sz_dns.specs.Answer.{answer_count, AreQuestions, AreRecords, in_question, in_record, IsFault, IsItemFault, IsWithoutError, question_count}
 use Rattle.sz_dns.specs.Record.{AreFields, IsQuestionFault, number_at, two_bytes}
 use Rattle.sz_dns.specs.Service.{service_name}
-use Rattle.sz_dns.specs.declared.answer.TheConstants.{HEADER}
+use Rattle.sz_dns.specs.Limits.{header_bytes}
 use Rattle.sz_dns.specs.declared.fault.DnsKind.{DnsKind}
 use Rattle.sz_dns.specs.declared.service.Candidate.{Candidate}
 use Rattle.sz_dns.proofs.Parts.{in_order}
@@ -50,16 +50,16 @@ fields_at bytes contents rest kind class octets long behind kinds classes sizes 
     )
 
 -- a header without an error
-pub header_is : (message header : List ℕ) → HEADER ≤ length message → header ≡ take HEADER message → get_or header 3 0 % 16 ≡ 0
+pub header_is : (message header : List ℕ) → header_bytes ≤ length message → header ≡ take header_bytes message → get_or header 3 0 % 16 ≡ 0
     → IsWithoutError message
 header_is message header long is code =
     let same : get_or header 3 0 ≡ get_or message 3 0 =
-    ap (λ (xs : List ℕ). get_or xs 3 0) is ∙ get_or-take HEADER message 3 0 (omega arith) in
+    ap (λ (xs : List ℕ). get_or xs 3 0) is ∙ get_or-take header_bytes message 3 0 (omega arith) in
     record { long = long; code = ap (λ (n : ℕ). n % 16) (sym same) ∙ code }
 
 -- the fault of a question
 pub question_fault : (message domain body left : List ℕ) (read count : ℕ) (kind : DnsKind) (place : ℕ) → IsWithoutError message
-    → body ≡ drop HEADER message → count ≡ question_count message → read < count → AreQuestions message read body left
+    → body ≡ drop header_bytes message → count ≡ question_count message → read < count → AreQuestions message read body left
     → IsQuestionFault message left kind → place ≡ length message - length left → IsFault message domain kind place
 question_fault message domain body left read count kind place header is counted few questions fault at =
     let there = rw is at questions in
@@ -67,7 +67,7 @@ question_fault message domain body left read count kind place header is counted 
 
 -- the fault of a record
 pub record_fault : (message domain body middle left : List ℕ) (read count questions_read : ℕ) (candidates : List Candidate) (kind : DnsKind)
-    (place : ℕ) → IsWithoutError message → body ≡ drop HEADER message → questions_read ≡ question_count message
+    (place : ℕ) → IsWithoutError message → body ≡ drop header_bytes message → questions_read ≡ question_count message
     → AreQuestions message questions_read body middle → count ≡ answer_count message → read < count
     → AreRecords message (service_name domain) read middle candidates left → IsItemFault message (service_name domain) left kind place
     → IsFault message domain kind place

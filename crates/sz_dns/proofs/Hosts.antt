@@ -11,7 +11,7 @@ use Rattle.std.proofs.lemmas.Slice.Eq.{bytes_eq-Decides}
 use Rattle.sz_base.specs.Host.{is_name_byte, IsHost, IsName}
 use Rattle.sz_dns.specs.Name.{labels_size}
 use Rattle.sz_dns.specs.Service.{dotted, is_host, is_host_byte}
-use Rattle.sz_dns.specs.declared.name.TheConstants.{MOST_BYTES}
+use Rattle.sz_dns.specs.Limits.{most_name_bytes}
 
 more_marks : (a x y z : Bool) → (a || (x || (y || false))) ≡ true → (a || (x || (y || (z || false)))) ≡ true
 more_marks true x y z e = refl
@@ -56,7 +56,7 @@ dotted_size [] = omega arith
 dotted_size (label ∷ labels) = omega (arith, length-append label (behind labels), behind_size labels)
 
 -- the text of a host's labels is a host
-pub host_text_is : (labels : List (List ℕ)) → is_host labels ≡ true → labels_size labels + 1 ≤ MOST_BYTES → IsHost (dotted labels)
+pub host_text_is : (labels : List (List ℕ)) → is_host labels ≡ true → labels_size labels + 1 ≤ most_name_bytes → IsHost (dotted labels)
 host_text_is labels e short =
     let parts = and_parts (not (eqb (length (dotted labels)) 0)) (list_all (list_all is_host_byte) labels) e in
     let size = dotted_size labels in

@@ -2,7 +2,7 @@
 use Rattle.std.proofs.Common.{◌≡◌, ℕ, suc, ◌+◌, ◌≤◌, List, ◌∷◌, ◌++◌, length, drop, refl, sym, ap, ◌∙◌, arith}
 use Rattle.sz_dns.specs.Name.{BeginsWithLabel, BeginsWithPointer, behind_label, behind_pointer, GoesWrong, here, IsName, IsNameFault, labelled, labels_size, NameOf, pointed, root}
 use Rattle.sz_dns.specs.declared.fault.DnsKind.{DnsKind}
-use Rattle.sz_dns.specs.declared.name.TheConstants.{MOST_BYTES, MOST_POINTERS}
+use Rattle.sz_dns.specs.Limits.{most_name_bytes, most_pointers}
 use Rattle.sz_dns.proofs.Fronts.{label_front, pointer_front, root_front}
 use Rattle.sz_dns.proofs.Splits.{same_fronts}
 
@@ -118,7 +118,7 @@ one_name_fault message bytes kind other a b = one_wrong message bytes 0 0 kind o
 
 -- a name within its limits has no fault
 not_wrong : (message bytes rest : List ℕ) (labels : List (List ℕ)) (further size pointers : ℕ) (kind : DnsKind)
-    → NameOf message bytes labels further rest → size + labels_size labels + 1 ≤ MOST_BYTES → pointers + further ≤ MOST_POINTERS
+    → NameOf message bytes labels further rest → size + labels_size labels + 1 ≤ most_name_bytes → pointers + further ≤ most_pointers
     → GoesWrong message bytes size pointers kind → ⊥
 not_wrong message bytes rest labels further size pointers kind (root a) short few (here b) =
     let e = sym (root_front bytes rest size pointers a) ∙ b in cc e

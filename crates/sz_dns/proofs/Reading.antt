@@ -5,7 +5,7 @@ use Rattle.sz_base.specs.declared.target.Target.{Target}
 use Rattle.sz_dns.specs.Answer.{answer_count, AreQuestions, AreRecords, Gives, in_fields, in_header, in_question, in_record, in_service, IsFault, IsItemFault, question_count}
 use Rattle.sz_dns.specs.Record.{IsQuestion, IsQuestionFault, IsRecord, Record}
 use Rattle.sz_dns.specs.Service.{GivesCandidates, service_name}
-use Rattle.sz_dns.specs.declared.answer.TheConstants.{HEADER}
+use Rattle.sz_dns.specs.Limits.{header_bytes}
 use Rattle.sz_dns.specs.declared.fault.DnsKind.{DnsKind}
 use Rattle.sz_dns.specs.declared.service.Candidate.{Candidate}
 use Rattle.sz_dns.proofs.Orders.{one_order}
@@ -157,7 +157,7 @@ one_reading message domain targets others (inl a) (inl b) = a.none ∙ sym b.non
 one_reading message domain targets others (inl a) (inr b) = absurd (a.error b.header.code)
 one_reading message domain targets others (inr a) (inl b) = absurd (b.error a.header.code)
 one_reading message domain targets others (inr a) (inr b) =
-    let middles = one_end message (question_count message) (drop HEADER message) a.middle b.middle a.questions b.questions in
+    let middles = one_end message (question_count message) (drop header_bytes message) a.middle b.middle a.questions b.questions in
     let records = rw middles at a.records in
     let same = one_answer message (service_name domain) (answer_count message) b.middle a.rest b.rest a.candidates b.candidates records b.records in
     let order = rw same.0 at a.order in
@@ -171,9 +171,9 @@ never_both message domain targets kind place (inl a) (in_question read left head
 never_both message domain targets kind place (inl a) (in_record read middle left candidates header questions few records fault) = a.error header.code
 never_both message domain targets kind place (inr a) (in_header short) = omega (arith, a.header.long)
 never_both message domain targets kind place (inr a) (in_question read left header few questions fault) =
-    questions_or_fault message read (question_count message) (drop HEADER message) left a.middle kind few questions a.questions fault
+    questions_or_fault message read (question_count message) (drop header_bytes message) left a.middle kind few questions a.questions fault
 never_both message domain targets kind place (inr a) (in_record read middle left candidates header questions few records fault) =
-    let same = one_end message (question_count message) (drop HEADER message) middle a.middle questions a.questions in
+    let same = one_end message (question_count message) (drop header_bytes message) middle a.middle questions a.questions in
     let there = rw same at records in
     records_or_fault message (service_name domain) read (answer_count message) a.middle left a.rest candidates a.candidates kind place few there a.records fault
 
@@ -185,17 +185,17 @@ one_fault message domain kind other place at (in_header a) (in_record read middl
     absurd (omega (arith, header.long))
 one_fault message domain kind other place at (in_question read left header few questions fault) (in_header b) = absurd (omega (arith, header.long))
 one_fault message domain kind other place at (in_question read left header few questions fault) (in_question second behind again less others wrong) =
-    one_in_questions message read second (drop HEADER message) left behind kind other questions others fault wrong
+    one_in_questions message read second (drop header_bytes message) left behind kind other questions others fault wrong
 one_fault message domain kind other place at (in_question read left header few questions fault)
     (in_record further middle behind candidates again others less records wrong) =
-    absurd (questions_or_fault message read (question_count message) (drop HEADER message) left middle kind few questions others fault)
+    absurd (questions_or_fault message read (question_count message) (drop header_bytes message) left middle kind few questions others fault)
 one_fault message domain kind other place at (in_record read middle left candidates header questions few records fault) (in_header b) =
     absurd (omega (arith, header.long))
 one_fault message domain kind other place at (in_record further middle behind candidates header questions few records fault)
     (in_question read left again less others wrong) =
-    absurd (questions_or_fault message read (question_count message) (drop HEADER message) left middle other less others questions wrong)
+    absurd (questions_or_fault message read (question_count message) (drop header_bytes message) left middle other less others questions wrong)
 one_fault message domain kind other place at (in_record read middle left candidates header questions few records fault)
     (in_record further between behind second again others less more wrong) =
-    let same = one_end message (question_count message) (drop HEADER message) middle between questions others in
+    let same = one_end message (question_count message) (drop header_bytes message) middle between questions others in
     let there = rw same at records in
     one_in_records message (service_name domain) read further between left behind candidates second kind other place at there more fault wrong

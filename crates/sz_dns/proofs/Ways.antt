@@ -5,7 +5,7 @@ use Rattle.std.specs.Option.{option_or}
 use Rattle.std.proofs.lemmas.List.{append-nil}
 use Rattle.sz_dns.specs.Name.{BeginsWithLabel, BeginsWithPointer, behind_label, behind_pointer, front_fault, GoesWrong, IsName, labelled, labels_size, NameOf, pointed, root}
 use Rattle.sz_dns.specs.declared.fault.DnsKind.{DnsKind}
-use Rattle.sz_dns.specs.declared.name.TheConstants.{MOST_BYTES, MOST_POINTERS}
+use Rattle.sz_dns.specs.Limits.{most_name_bytes, most_pointers}
 use Rattle.sz_dns.proofs.Fronts.{label_fits, pointer_allowed}
 
 -- A name goes on at `left`, after these labels and so many pointers; what comes after it is known once a pointer was
@@ -15,8 +15,8 @@ pub record IsOnWay (message start left : List ℕ) (labels : List (List ℕ)) (s
       → NameOf message start (labels ++ more) (pointers + further) (unwrap_or after rest)
   pub fault : (kind : DnsKind) → GoesWrong message left size pointers kind → GoesWrong message start 0 0 kind
   pub size_is : size ≡ labels_size labels
-  pub short : size + 1 ≤ MOST_BYTES
-  pub few : pointers ≤ MOST_POINTERS
+  pub short : size + 1 ≤ most_name_bytes
+  pub few : pointers ≤ most_pointers
 
 pub way_begins : (message start : List ℕ) → IsOnWay message start start [] 0 0 None
 way_begins message start = record {

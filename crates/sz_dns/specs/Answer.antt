@@ -4,7 +4,7 @@ use Rattle.sz_base.specs.declared.target.Target.{Target}
 use Rattle.sz_dns.specs.Order.{AreByPriority}
 use Rattle.sz_dns.specs.Record.{IsQuestion, IsQuestionFault, IsRecord, IsRecordFault, number_at, Record}
 use Rattle.sz_dns.specs.Service.{counts, GivesCandidates, IsServiceFault, service_name}
-use Rattle.sz_dns.specs.declared.answer.TheConstants.{HEADER}
+use Rattle.sz_dns.specs.Limits.{header_bytes}
 use Rattle.sz_dns.specs.declared.fault.DnsKind.{DnsKind}
 use Rattle.sz_dns.specs.declared.fault.DnsKind.TheVariants.{Short}
 use Rattle.sz_dns.specs.declared.service.Candidate.{Candidate}
@@ -36,7 +36,7 @@ AreRecords message name (suc count) bytes candidates rest =
 
 -- the message has a whole header without an error
 pub record IsWithoutError (message : List ℕ) : Type 0 where
-  pub long : HEADER ≤ length message
+  pub long : header_bytes ≤ length message
   pub code : response_code message ≡ 0
 
 -- the questions and the answer records are read, and the records give these targets by priority
@@ -46,14 +46,14 @@ pub record GivesByPriority (message domain : List ℕ) (targets : List Target) :
   pub rest : List ℕ
   pub candidates : List Candidate
   pub ordered : List Candidate
-  pub questions : AreQuestions message (question_count message) (drop HEADER message) middle
+  pub questions : AreQuestions message (question_count message) (drop header_bytes message) middle
   pub records : AreRecords message (service_name domain) (answer_count message) middle candidates rest
   pub order : AreByPriority candidates ordered
   pub taken : targets ≡ map (λ candidate. candidate.target) ordered
 
 -- an answer with an error gives nothing, whatever follows its header
 pub record GivesNothing (message : List ℕ) (targets : List Target) : Type 0 where
-  pub long : HEADER ≤ length message
+  pub long : header_bytes ≤ length message
   pub error : response_code message ≢ 0
   pub none : targets ≡ []
 
@@ -75,11 +75,11 @@ pub data IsItemFault (message name bytes : List ℕ) : DnsKind → ℕ → Type 
 
 -- The rules in their order: the header, the questions from the front, the answer records from the front.
 pub data IsFault (message domain : List ℕ) : DnsKind → ℕ → Type 0 where
-  in_header : length message < HEADER → IsFault message domain Short 0
+  in_header : length message < header_bytes → IsFault message domain Short 0
   in_question : (count : ℕ) (bytes : List ℕ) {kind : DnsKind} → IsWithoutError message
-      → count < question_count message → AreQuestions message count (drop HEADER message) bytes
+      → count < question_count message → AreQuestions message count (drop header_bytes message) bytes
       → IsQuestionFault message bytes kind → IsFault message domain kind (length message - length bytes)
   in_record : (count : ℕ) (middle bytes : List ℕ) (candidates : List Candidate) {kind : DnsKind} {place : ℕ}
-      → IsWithoutError message → AreQuestions message (question_count message) (drop HEADER message) middle
+      → IsWithoutError message → AreQuestions message (question_count message) (drop header_bytes message) middle
       → count < answer_count message → AreRecords message (service_name domain) count middle candidates bytes
       → IsItemFault message (service_name domain) bytes kind place → IsFault message domain kind place

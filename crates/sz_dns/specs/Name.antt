@@ -2,7 +2,7 @@
 use Rattle.std.specs.Prelude.{◌≡◌, ℕ, suc, ◌+◌, ◌*◌, ◌≤◌, ◌==◌, ◌&&◌, Bool, nat_lt, nat_le, if◌then◌else◌, List, [], ◌∷◌, ◌++◌, length, drop, slice_index, Option, Some, None}
 use Rattle.sz_dns.specs.declared.fault.DnsKind.{DnsKind}
 use Rattle.sz_dns.specs.declared.fault.DnsKind.TheVariants.{Short, Pointer, Label}
-use Rattle.sz_dns.specs.declared.name.TheConstants.{MOST_BYTES, MOST_POINTERS}
+use Rattle.sz_dns.specs.Limits.{most_name_bytes, most_pointers}
 
 -- a label at the front of the bytes: its length, from 1 to 63, and its bytes (sections 2.3.4 and 3.1)
 pub record BeginsWithLabel (bytes label rest : List ℕ) : Type 0 where
@@ -38,8 +38,8 @@ labels_size (label ∷ labels) = 1 + length label + labels_size labels
 pub record IsName (message bytes : List ℕ) (labels : List (List ℕ)) (rest : List ℕ) : Type 0 where
   pub pointers : ℕ
   pub name : NameOf message bytes labels pointers rest
-  pub short : labels_size labels + 1 ≤ MOST_BYTES
-  pub few : pointers ≤ MOST_POINTERS
+  pub short : labels_size labels + 1 ≤ most_name_bytes
+  pub few : pointers ≤ most_pointers
 
 -- ---- the first fault
 
@@ -62,9 +62,9 @@ front_fault bytes size pointers =
     first_of (
     (length bytes == 0, Short)
     ∷ (is_pointer first && length bytes == 1, Short)
-    ∷ (is_pointer first && nat_le MOST_POINTERS pointers, Pointer)
+    ∷ (is_pointer first && nat_le most_pointers pointers, Pointer)
     ∷ (is_label first && nat_le (length bytes) first, Short)
-    ∷ (is_label first && nat_lt MOST_BYTES (size + 1 + first + 1), Pointer)
+    ∷ (is_label first && nat_lt most_name_bytes (size + 1 + first + 1), Pointer)
     ∷ (nat_le 64 first && nat_lt first 192, Label)
     ∷ [])
 

@@ -10,7 +10,7 @@ use Rattle.sz_dns.specs.Part.{place_of_kind}
 use Rattle.sz_dns.specs.Record.{Record, two_bytes}
 use Rattle.sz_dns.specs.declared.fault.DnsKind.{DnsKind}
 use Rattle.sz_dns.specs.declared.fault.DnsKind.TheVariants.{Short}
-use Rattle.sz_dns.specs.declared.service.TheConstants.{IN, SRV}
+use Rattle.sz_dns.specs.Limits.{internet_class, service_type}
 use Rattle.sz_dns.specs.declared.service.Candidate.{Candidate}
 use Rattle.sz_dns.specs.declared.service.Service.{Service}
 
@@ -37,7 +37,7 @@ is_owner name labels = not (list_any has_dot labels) && bytes_eq (lowered (dotte
 
 -- a record counts: it has type 33 and class 1, and is that of a name
 abbrev pub counts : List ℕ → Record → Bool
-counts name item = item.kind == SRV && (item.class == IN && is_owner name item.owner)
+counts name item = item.kind == service_type && (item.class == internet_class && is_owner name item.owner)
 
 -- The data of a record are this service: priority, weight and port in two bytes each, and a target's name. Bytes after
 -- it are passed over.

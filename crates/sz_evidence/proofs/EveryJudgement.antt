@@ -15,7 +15,7 @@ use Rattle.sz_cms.proofs.Whole.{InfoOf_from_none}
 use Rattle.sz_cms.specs.Message.{Info, InfoOf, Plain, Signed, SignedData}
 use Rattle.sz_cms.specs.MessageFault.{Fault, info_fault}
 use Rattle.sz_cms.specs.Places.{info_at}
-use Rattle.sz_cms.specs.declared.identifier.TheConstants.{CONVEYED_JSON, CONVEYED_XML, DATA, ENVELOPED_DATA}
+use Rattle.sz_cms.specs.Identifiers.{conveyed_json_oid, conveyed_xml_oid, data_oid, enveloped_data_oid}
 use Rattle.sz_der.specs.Der.{AreOctets}
 use Rattle.sz_artifacts.proofs.Faultless.{read_conveyed}
 use Rattle.sz_artifacts.proofs.Fitting.{fits}
@@ -83,10 +83,10 @@ text_cases first_fault Is content faultless at_fault reads = at_fault name.Json 
 
 -- ---- the type of conveyed information
 
-either_kind : (json any : Bool) (kind : List ℕ) → bytes_eq kind CONVEYED_JSON ≡ json → bytes_eq kind DATA ≡ any
+either_kind : (json any : Bool) (kind : List ℕ) → bytes_eq kind conveyed_json_oid ≡ json → bytes_eq kind data_oid ≡ any
     → (json || any) ≡ true → IsInformation kind
-either_kind true any kind j d e = inl ((bytes_eq-Decides kind CONVEYED_JSON).0 j)
-either_kind false true kind j d e = inr ((bytes_eq-Decides kind DATA).0 d)
+either_kind true any kind j d e = inl ((bytes_eq-Decides kind conveyed_json_oid).0 j)
+either_kind false true kind j d e = inr ((bytes_eq-Decides kind data_oid).0 d)
 either_kind false false kind j d e = cc
 
 known_if : (known xml enveloped : Bool) → (if known then None else if xml then Some reason.XmlContent
@@ -99,7 +99,7 @@ known_if false false false e = cc
 known_kind : (kind : List ℕ) → kind_reason kind ≡ None → IsInformation kind
 known_kind kind e =
     either_kind _ _ kind refl refl
-    (known_if (bytes_eq kind CONVEYED_JSON || bytes_eq kind DATA) (bytes_eq kind CONVEYED_XML) (bytes_eq kind ENVELOPED_DATA) e)
+    (known_if (bytes_eq kind conveyed_json_oid || bytes_eq kind data_oid) (bytes_eq kind conveyed_xml_oid) (bytes_eq kind enveloped_data_oid) e)
 
 -- ---- each step
 

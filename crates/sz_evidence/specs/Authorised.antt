@@ -7,7 +7,7 @@ use Rattle.sz_base.specs.declared.moment.Moment.{Moment}
 use Rattle.sz_chain.specs.SignedBy.{SignedBy}
 use Rattle.sz_der.specs.Der.{AreOctets}
 use Rattle.sz_cms.specs.Message.{InfoOf, Signed, SignedData}
-use Rattle.sz_cms.specs.declared.identifier.TheConstants.{CONVEYED_JSON, DATA, VOUCHER}
+use Rattle.sz_cms.specs.Identifiers.{conveyed_json_oid, data_oid, voucher_oid}
 use Rattle.sz_artifacts.specs.Conveyed.{ConveyedOf}
 use Rattle.sz_artifacts.specs.declared.conveyed.Conveyed.{Conveyed}
 use Rattle.sz_artifacts.specs.declared.conveyed.Conveyed.TheVariants as conveyed
@@ -24,7 +24,7 @@ pub record IsVoucherMessage (ov : Option (List ℕ)) (signed : Signed) : Type 0 
   pub bytes : List ℕ
   pub is_there : ov ≡ Some bytes
   pub is_signed_data : InfoOf bytes (SignedData signed)
-  pub is_voucher : signed.kind ≡ VOUCHER
+  pub is_voucher : signed.kind ≡ voucher_oid
 
 -- its content is this voucher, whoever signed it
 pub record CarriesVoucher (ov : Option (List ℕ)) (voucher : Voucher) : Type 0 where
@@ -76,7 +76,7 @@ crls_where (Some signed) = signed.crls
 
 -- the two types of conveyed information that is read
 abbrev pub IsInformation : List ℕ → Type 0
-IsInformation kind = (kind ≡ CONVEYED_JSON) ⊎ (kind ≡ DATA)
+IsInformation kind = (kind ≡ conveyed_json_oid) ⊎ (kind ≡ data_oid)
 
 -- the revocation lists, where the voucher wishes for revocation checks
 abbrev pub asked : Bool → List (List ℕ) → Option (List (List ℕ))

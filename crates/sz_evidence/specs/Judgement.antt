@@ -13,7 +13,7 @@ use Rattle.sz_cms.specs.Message.{Info, InfoOf, Plain, Signed, SignedData}
 use Rattle.sz_cms.specs.MessageFault.{Fault, info_fault}
 use Rattle.sz_cms.specs.declared.fault.InfoKind.{InfoKind}
 use Rattle.sz_cms.specs.declared.fault.InfoKind.TheVariants as kind
-use Rattle.sz_cms.specs.declared.identifier.TheConstants.{CONVEYED_JSON, CONVEYED_XML, DATA, ENVELOPED_DATA, VOUCHER}
+use Rattle.sz_cms.specs.Identifiers.{conveyed_json_oid, conveyed_xml_oid, data_oid, enveloped_data_oid, voucher_oid}
 use Rattle.sz_artifacts.specs.Conveyed.{conveyed_fault, ConveyedOf, has_onboarding}
 use Rattle.sz_artifacts.specs.declared.conveyed.Conveyed.TheVariants as conveyed
 use Rattle.sz_json.specs.Bounded.{IsBoundedJson}
@@ -60,9 +60,9 @@ message_reason artifact fault = message_reason_of artifact fault.0 fault.1
 
 abbrev pub kind_reason : List ℕ → Option Reason
 kind_reason kind =
-    if bytes_eq kind CONVEYED_JSON || bytes_eq kind DATA then None
-    else if bytes_eq kind CONVEYED_XML then Some reason.XmlContent
-    else if bytes_eq kind ENVELOPED_DATA then Some reason.Encrypted
+    if bytes_eq kind conveyed_json_oid || bytes_eq kind data_oid then None
+    else if bytes_eq kind conveyed_xml_oid then Some reason.XmlContent
+    else if bytes_eq kind enveloped_data_oid then Some reason.Encrypted
     else Some (reason.BadCms artifact.Conveyed)
 
 abbrev pub voucher_reason : VoucherFault → Reason
@@ -115,7 +115,7 @@ UnreadableWhere artifact where_there found =
 -- signed data of the type of vouchers
 abbrev pub IsVoucherInfo : Info → Type 0
 IsVoucherInfo (Plain kind content) = ⊥
-IsVoucherInfo (SignedData signed) = signed.kind ≡ VOUCHER
+IsVoucherInfo (SignedData signed) = signed.kind ≡ voucher_oid
 
 -- it is another message
 abbrev pub OtherVoucher : Option (List ℕ) → Rule

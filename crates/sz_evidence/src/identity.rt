@@ -8,15 +8,12 @@ ghost use Rattle.sz_evidence.specs.IdentityFile.{AreAnchors, HasAnchors, HasText
 ghost use Rattle.sz_json.specs.declared.name.Name.TheVariants as name;
 
 use std::alloc::Global;
-use sz_base::{BaseFault, Bytes, Certs, Identity, OutOfMemory, Serial, Text, base64_bytes};
+use sz_base::{
+    BaseFault, Bytes, Certs, Identity, MOST_ANCHOR_BYTES, MOST_ANCHORS, MOST_OS_BYTES, OutOfMemory,
+    Serial, Text, base64_bytes,
+};
 use sz_json::{JsonFault, Name, Value, list, required_string, required_text};
 use sz_x509::Cert;
-
-const MOST_ANCHORS: usize = 8;
-
-const MOST_ANCHOR_BYTES: usize = 65_536;
-
-const MOST_OS_BYTES: usize = 256;
 
 const BAD_ANCHORS: IdentityFault = IdentityFault::Bad {
     name: Name::Anchors,

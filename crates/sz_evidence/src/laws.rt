@@ -14,7 +14,8 @@ ghost use Rattle.sz_evidence.specs.declared.reason.Reason.{Reason};
 ghost use Rattle.sz_json.specs.declared.name.Name.{Name};
 ghost use Rattle.sz_artifacts.specs.declared.voucher.Voucher.{Voucher};
 
-/// The judgement is one answer: evidence has no two judgements, and, where its artifacts are bytes, is never without one.
+/// The judgement is one answer: evidence has no two judgements, and, where its artifacts are bytes, is never without
+/// one.
 pub fn judgements_are_single()
     ensures one_answer { (identity : Identity) (when : Moment) (evidence : Evidence)
         (answer other : Result Judged Reason) → Judgement identity when evidence answer
@@ -65,7 +66,8 @@ pub fn authorised_has_the_nonce()
         → IfSome voucher.nonce (λ nonce. when.nonce ≡ Some nonce) }
 {}
 
-/// A file is read as one identity or refused by one name: it is never read as both or in two ways, and never as nothing.
+/// A file is read as one identity or refused by one name: it is never read as both or in two ways, and never as
+/// nothing.
 pub fn identities_are_single()
     ensures one_answer { (bytes : List ℕ) (answer other : Result Identity Name) → ReadsAs bytes answer
         → ReadsAs bytes other → answer ≡ other }

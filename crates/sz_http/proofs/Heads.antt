@@ -1,13 +1,13 @@
 -- A head stays one whatever follows it, and so does what was taken of it.
 use Rattle.std.proofs.Common.{◌⊎◌, ℕ, List, [], ◌++◌, sym, ap, ◌∙◌, subst, arith, append_assoc, length-append, inl, inr, Result}
 use Rattle.httparse.proofs.GrammarLemmas.{ReadsRequest-append, ReadsResponse-append, ReadsSection-append}
-use Rattle.sz_head.specs.declared.kind.Kind.{Kind}
-use Rattle.sz_head.specs.declared.kind.Kind.TheVariants.{Request, Reply, Trailer}
-use Rattle.sz_head.specs.declared.reading.HeadReading.{HeadReading}
-use Rattle.sz_head.specs.Head.{BeginsWithHead, IsHead, HasNoHead, NeverHasHead}
-use Rattle.sz_head.specs.Parts.{Parts}
-use Rattle.sz_body.specs.declared.framing.Framing.{Framing}
-use Rattle.sz_body.specs.declared.framing.FramingFault.{FramingFault}
+use Rattle.sz_http.specs.declared.kind.Kind.{Kind}
+use Rattle.sz_http.specs.declared.kind.Kind.TheVariants.{Request, Reply, Trailer}
+use Rattle.sz_http.specs.declared.head_reading.HeadReading.{HeadReading}
+use Rattle.sz_http.specs.Head.{BeginsWithHead, IsHead, HasNoHead, NeverHasHead}
+use Rattle.sz_http.specs.Parts.{Parts}
+use Rattle.sz_http.specs.declared.framing.Framing.{Framing}
+use Rattle.sz_http.specs.declared.framing.FramingFault.{FramingFault}
 use Rattle.sz_http.specs.declared.side.Side.{Side}
 use Rattle.sz_http.specs.Message.{kind_of, IsFramed}
 use Rattle.sz_http.specs.Reading.{HasTakenHead}

@@ -3,18 +3,18 @@ use Rattle.std.proofs.Common.{◌≡◌, ◌≢◌, ◌⊎◌, ℕ, ◌+◌, ◌
 use Rattle.std.proofs.lemmas.Bool.{false≢true}
 use Rattle.httparse.specs.Grammar.{ReadsRequest, ReadsResponse, RequestHead, ResponseHead}
 use Rattle.httparse.proofs.GrammarLemmas.{ReadsRequest-append, ReadsResponse-append, request_unique, response_unique}
-use Rattle.sz_head.specs.Head.{IsUnfinished, HasNoHead, NeverHasHead, MayBecomeHead, EndsInsideTarget}
-use Rattle.sz_head.specs.Parts.{Parts, request_parts, reply_parts}
-use Rattle.sz_body.specs.declared.framing.Framing.{Framing}
-use Rattle.sz_body.specs.declared.framing.Framing.TheVariants.{Length, Chunks, UntilEnd}
-use Rattle.sz_body.specs.declared.framing.FramingFault.{FramingFault}
-use Rattle.sz_body.specs.Framing.{Frames}
-use Rattle.sz_body.proofs.Once.{frames_once}
-use Rattle.sz_chunked.specs.declared.fault.ChunkFault.{ChunkFault}
-use Rattle.sz_chunked.specs.Refusal.{IsRefused as IsRefusedBody}
-use Rattle.sz_chunked.proofs.ChunkLines.{same_split}
-use Rattle.sz_chunked.proofs.Once.{same_front, chunked_once, part_not_whole}
-use Rattle.sz_chunked.proofs.Refusals.{refused_once, refused_not_part, refused_not_whole}
+use Rattle.sz_http.specs.Head.{IsUnfinished, HasNoHead, NeverHasHead, MayBecomeHead, EndsInsideTarget}
+use Rattle.sz_http.specs.Parts.{Parts, request_parts, reply_parts}
+use Rattle.sz_http.specs.declared.framing.Framing.{Framing}
+use Rattle.sz_http.specs.declared.framing.Framing.TheVariants.{Length, Chunks, UntilEnd}
+use Rattle.sz_http.specs.declared.framing.FramingFault.{FramingFault}
+use Rattle.sz_http.specs.Framing.{Frames}
+use Rattle.sz_http.proofs.FramedOnce.{frames_once}
+use Rattle.sz_http.specs.declared.chunk_fault.ChunkFault.{ChunkFault}
+use Rattle.sz_http.specs.ChunkRefusal.{IsRefused as IsRefusedBody}
+use Rattle.sz_http.proofs.ChunkLines.{same_split}
+use Rattle.sz_http.proofs.ChunksOnce.{same_front, chunked_once, part_not_whole}
+use Rattle.sz_http.proofs.Refusals.{refused_once, refused_not_part, refused_not_whole}
 use Rattle.sz_http.specs.declared.side.Side.{Side}
 use Rattle.sz_http.specs.declared.side.Side.TheVariants.{Request, Reply}
 use Rattle.sz_http.specs.declared.fault.HttpFault.{HttpFault}

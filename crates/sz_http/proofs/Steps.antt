@@ -2,18 +2,18 @@
 use Rattle.std.proofs.Common.{◌≡◌, ◌⊎◌, ℕ, ◌+◌, ◌-◌, ◌<◌, ◌≤◌, Bool, true, false, List, [], ◌++◌, length, take, refl, sym, ◌∙◌, subst, arith, append-nil, length-append, length-take, inl, inr, Result, Ok}
 use Rattle.std.specs.Prelude.{⊤}
 use Rattle.std.proofs.lemmas.Bool.{cases_lt}
-use Rattle.sz_head.specs.declared.reading.HeadReading.{HeadReading}
-use Rattle.sz_head.specs.Head.{IsHead}
-use Rattle.sz_head.specs.Parts.{Parts}
-use Rattle.sz_head.specs.Reading.{Takes as TakesHead}
-use Rattle.sz_body.specs.declared.framing.Framing.{Framing}
-use Rattle.sz_body.specs.declared.framing.Framing.TheVariants.{Length, Chunks, UntilEnd as ToTheEnd}
-use Rattle.sz_body.specs.declared.framing.FramingFault.{FramingFault}
-use Rattle.sz_chunked.specs.declared.fault.ChunkFault.{ChunkFault}
-use Rattle.sz_chunked.specs.declared.fault.ChunkFault.TheVariants.{BadChunk as BadChunks, TooLarge as TooManyChunks}
-use Rattle.sz_chunked.specs.declared.fed.Fed.{Fed as FedChunks}
-use Rattle.sz_chunked.specs.Reading.{Took as TookChunks}
-use Rattle.sz_chunked.specs.Refusal.{IsRefused as IsRefusedBody}
+use Rattle.sz_http.specs.declared.head_reading.HeadReading.{HeadReading}
+use Rattle.sz_http.specs.Head.{IsHead}
+use Rattle.sz_http.specs.Parts.{Parts}
+use Rattle.sz_http.specs.HeadReading.{Takes as TakesHead}
+use Rattle.sz_http.specs.declared.framing.Framing.{Framing}
+use Rattle.sz_http.specs.declared.framing.Framing.TheVariants.{Length, Chunks, UntilEnd as ToTheEnd}
+use Rattle.sz_http.specs.declared.framing.FramingFault.{FramingFault}
+use Rattle.sz_http.specs.declared.chunk_fault.ChunkFault.{ChunkFault}
+use Rattle.sz_http.specs.declared.chunk_fault.ChunkFault.TheVariants.{BadChunk as BadChunks, TooLarge as TooManyChunks}
+use Rattle.sz_http.specs.declared.fed_chunks.FedChunks.{FedChunks}
+use Rattle.sz_http.specs.ChunkReading.{Took as TookChunks}
+use Rattle.sz_http.specs.ChunkRefusal.{IsRefused as IsRefusedBody}
 use Rattle.sz_http.specs.declared.side.Side.{Side}
 use Rattle.sz_http.specs.declared.fault.HttpFault.{HttpFault}
 use Rattle.sz_http.specs.declared.fault.HttpFault.TheVariants.{TooLarge}

@@ -2,21 +2,21 @@
 use Rattle.std.proofs.Common.{◌≡◌, ◌⊎◌, ℕ, ◌+◌, ◌≤◌, Bool, true, false, List, [], ◌++◌, length, take, drop, take_all, refl, sym, ap, ◌∙◌, subst, arith, append_assoc, append-nil, length-append, length-take, take-append-drop, inl, inr, Option, Some, None, IfSome, IfNone, Result, Ok, Err}
 use Rattle.std.proofs.lemmas.Bool.{cases_Bool, false≢true}
 use Rattle.std.proofs.Math.Seq.{take-append_seam}
-use Rattle.sz_chunked.proofs.Parts.{nothing_part}
-use Rattle.sz_head.specs.declared.reading.HeadReading.{HeadReading}
-use Rattle.sz_head.specs.declared.head.Head.{Head}
-use Rattle.sz_head.specs.declared.kind.Kind.{Kind}
-use Rattle.sz_head.specs.declared.kind.Kind.TheVariants.{Request as RequestKind, Reply as ReplyKind}
-use Rattle.sz_head.specs.declared.place.Place.TheVariants.{EmptyLines}
-use Rattle.sz_head.specs.declared.progress.Progress.{Progress}
-use Rattle.sz_head.specs.declared.progress.Progress.TheVariants.{More, Whole as WholeHead}
-use Rattle.sz_head.specs.Head.{IsHead, HasNoHead, IsUnfinished, NeverHasHead}
-use Rattle.sz_head.specs.Parts.{Parts, HasParts, parts_of}
-use Rattle.sz_head.specs.Reading.{Answers as AnswersHead, Takes as TakesHead}
-use Rattle.sz_head.proofs.Stands.{reply_stands, request_stands, unfinished_open}
-use Rattle.sz_body.specs.declared.framing.Framing.{Framing}
-use Rattle.sz_body.specs.declared.framing.Framing.TheVariants.{Length, Chunks, UntilEnd as ToTheEnd}
-use Rattle.sz_body.specs.declared.framing.FramingFault.{FramingFault}
+use Rattle.sz_http.proofs.ChunkParts.{nothing_part}
+use Rattle.sz_http.specs.declared.head_reading.HeadReading.{HeadReading}
+use Rattle.sz_http.specs.declared.head.Head.{Head}
+use Rattle.sz_http.specs.declared.kind.Kind.{Kind}
+use Rattle.sz_http.specs.declared.kind.Kind.TheVariants.{Request as RequestKind, Reply as ReplyKind}
+use Rattle.sz_http.specs.declared.head_place.Place.TheVariants.{EmptyLines}
+use Rattle.sz_http.specs.declared.progress.Progress.{Progress}
+use Rattle.sz_http.specs.declared.progress.Progress.TheVariants.{More, Whole as WholeHead}
+use Rattle.sz_http.specs.Head.{IsHead, HasNoHead, IsUnfinished, NeverHasHead}
+use Rattle.sz_http.specs.Parts.{Parts, HasParts, parts_of}
+use Rattle.sz_http.specs.HeadReading.{Answers as AnswersHead, Takes as TakesHead}
+use Rattle.sz_http.proofs.Stands.{reply_stands, request_stands, unfinished_open}
+use Rattle.sz_http.specs.declared.framing.Framing.{Framing}
+use Rattle.sz_http.specs.declared.framing.Framing.TheVariants.{Length, Chunks, UntilEnd as ToTheEnd}
+use Rattle.sz_http.specs.declared.framing.FramingFault.{FramingFault}
 use Rattle.sz_http.specs.declared.side.Side.{Side}
 use Rattle.sz_http.specs.declared.side.Side.TheVariants.{Request, Reply}
 use Rattle.sz_http.specs.declared.fault.HttpFault.{HttpFault}

@@ -1,20 +1,20 @@
 -- Verdicts that stand, and what the end of the stream makes of one that needs more.
 use Rattle.std.proofs.Common.{ℕ, Bool, false, List, [], ◌∷◌, ◌++◌, refl, ap, ◌∙◌, arith, append_assoc, length-append, inl, inr, Ok, Err}
 use Rattle.std.proofs.lemmas.Bool.{false≢true}
-use Rattle.sz_head.specs.Head.{HasNoHead}
-use Rattle.sz_body.specs.declared.framing.Framing.{Framing}
-use Rattle.sz_body.specs.declared.framing.Framing.TheVariants.{Length, Chunks, UntilEnd}
-use Rattle.sz_body.specs.declared.framing.FramingFault.{FramingFault}
-use Rattle.sz_chunked.specs.declared.fault.ChunkFault.{ChunkFault}
-use Rattle.sz_chunked.proofs.Once.{short_more}
-use Rattle.sz_chunked.specs.Refusal.{IsRefused as IsRefusedBody}
+use Rattle.sz_http.specs.Head.{HasNoHead}
+use Rattle.sz_http.specs.declared.framing.Framing.{Framing}
+use Rattle.sz_http.specs.declared.framing.Framing.TheVariants.{Length, Chunks, UntilEnd}
+use Rattle.sz_http.specs.declared.framing.FramingFault.{FramingFault}
+use Rattle.sz_http.specs.declared.chunk_fault.ChunkFault.{ChunkFault}
+use Rattle.sz_http.proofs.ChunksOnce.{short_more}
+use Rattle.sz_http.specs.ChunkRefusal.{IsRefused as IsRefusedBody}
 use Rattle.sz_http.specs.declared.side.Side.{Side}
 use Rattle.sz_http.specs.declared.fault.HttpFault.{HttpFault}
 use Rattle.sz_http.specs.declared.fault.HttpFault.TheVariants.{BadHead, BadChunk, TooLarge, Coding, EndedEarly}
 use Rattle.sz_http.specs.Message.{kind_of, IsBody, IsMessage, EndsInBody}
 use Rattle.sz_http.specs.Verdict.{Outcome, needs_more, done_with, refused, IsRefusedHead, HasRefusedChunks, RunsPast, IsOpen, IsRefused, Verdict, IsFinal, ComesToAnEnd}
 use Rattle.sz_http.proofs.Heads.{never_more, framed_more, framed_begins}
-use Rattle.sz_head.specs.Parts.{Parts}
+use Rattle.sz_http.specs.Parts.{Parts}
 
 -- ---- bodies
 

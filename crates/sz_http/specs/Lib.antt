@@ -1,3 +1,15 @@
+pub mod Head
+pub mod Left
+pub mod Parts
+pub mod HeadPlace
+pub mod HeadReading
+pub mod Connection
+pub mod Framing
+pub mod Chunked
+pub mod ChunkPart
+pub mod ChunkPlace
+pub mod ChunkReading
+pub mod ChunkRefusal
 pub mod Message
 pub mod Reading
 pub mod Verdict

@@ -1,15 +1,15 @@
 -- The parts of a message: its head, and the body as the head frames it (RFC 9112 sections 2 to 7).
 use Rattle.std.specs.Prelude.{◌≡◌, ◌⊎◌, ℕ, ◌+◌, ◌<◌, ◌≤◌, Bool, true, List, [], ◌++◌, length, take, Result, Ok}
-use Rattle.sz_head.specs.declared.kind.Kind.{Kind}
-use Rattle.sz_head.specs.declared.kind.Kind.TheVariants.{Request as RequestKind, Reply as ReplyKind}
-use Rattle.sz_head.specs.Head.{HasNoHead, IsHead}
-use Rattle.sz_head.specs.Parts.{Parts, HasParts}
-use Rattle.sz_body.specs.declared.framing.Framing.{Framing}
-use Rattle.sz_body.specs.declared.framing.Framing.TheVariants.{Length, Chunks, UntilEnd}
-use Rattle.sz_body.specs.declared.framing.FramingFault.{FramingFault}
-use Rattle.sz_body.specs.Framing.{Frames}
-use Rattle.sz_chunked.specs.Chunked.{ReadsShort}
-use Rattle.sz_chunked.specs.Part.{IsPart}
+use Rattle.sz_http.specs.declared.kind.Kind.{Kind}
+use Rattle.sz_http.specs.declared.kind.Kind.TheVariants.{Request as RequestKind, Reply as ReplyKind}
+use Rattle.sz_http.specs.Head.{HasNoHead, IsHead}
+use Rattle.sz_http.specs.Parts.{Parts, HasParts}
+use Rattle.sz_http.specs.declared.framing.Framing.{Framing}
+use Rattle.sz_http.specs.declared.framing.Framing.TheVariants.{Length, Chunks, UntilEnd}
+use Rattle.sz_http.specs.declared.framing.FramingFault.{FramingFault}
+use Rattle.sz_http.specs.Framing.{Frames}
+use Rattle.sz_http.specs.Chunked.{ReadsShort}
+use Rattle.sz_http.specs.ChunkPart.{IsPart}
 use Rattle.sz_http.specs.declared.side.Side.{Side}
 use Rattle.sz_http.specs.declared.side.Side.TheVariants.{Request, Reply}
 

@@ -1,13 +1,13 @@
 -- A message that is read as its bytes come.
 use Rattle.std.specs.Prelude.{◌≡◌, ◌⊎◌, ℕ, ◌+◌, ◌<◌, ◌≤◌, Bool, true, false, List, [], ◌++◌, length, take, IsTrue, Result, Ok, Err}
-use Rattle.sz_head.specs.declared.kind.Kind.{Kind}
-use Rattle.sz_head.specs.declared.reading.HeadReading.{HeadReading}
-use Rattle.sz_head.specs.Head.{IsHead, HasNoHead, IsUnfinished}
-use Rattle.sz_head.specs.Parts.{Parts}
-use Rattle.sz_head.specs.Reading.{Takes as TakesHead}
-use Rattle.sz_body.specs.declared.framing.Framing.TheVariants.{Length, Chunks, UntilEnd as ToTheEnd}
-use Rattle.sz_chunked.specs.Part.{IsPart}
-use Rattle.sz_chunked.specs.Reading.{Takes as TakesChunks}
+use Rattle.sz_http.specs.declared.kind.Kind.{Kind}
+use Rattle.sz_http.specs.declared.head_reading.HeadReading.{HeadReading}
+use Rattle.sz_http.specs.Head.{IsHead, HasNoHead, IsUnfinished}
+use Rattle.sz_http.specs.Parts.{Parts}
+use Rattle.sz_http.specs.HeadReading.{Takes as TakesHead}
+use Rattle.sz_http.specs.declared.framing.Framing.TheVariants.{Length, Chunks, UntilEnd as ToTheEnd}
+use Rattle.sz_http.specs.ChunkPart.{IsPart}
+use Rattle.sz_http.specs.ChunkReading.{Takes as TakesChunks}
 use Rattle.sz_http.specs.declared.side.Side.{Side}
 use Rattle.sz_http.specs.declared.fault.HttpFault.{HttpFault}
 use Rattle.sz_http.specs.declared.fed.Fed.{Fed}

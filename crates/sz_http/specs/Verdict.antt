@@ -1,14 +1,14 @@
 -- The verdict on the first bytes of a message: more is needed, it is whole, or it is refused.
 use Rattle.std.specs.Prelude.{◌≡◌, ◌≢◌, ◌⊎◌, ℕ, ◌<◌, Bool, true, false, List, length, Ok, Err, ⊤}
-use Rattle.sz_head.specs.Head.{IsUnfinished, NeverHasHead}
-use Rattle.sz_head.specs.Parts.{Parts}
-use Rattle.sz_body.specs.declared.framing.Framing.{Framing}
-use Rattle.sz_body.specs.declared.framing.Framing.TheVariants.{Chunks, UntilEnd}
-use Rattle.sz_body.specs.declared.framing.FramingFault.{FramingFault}
-use Rattle.sz_body.specs.declared.framing.FramingFault.TheVariants.{BadHead as BadFraming, Coding as BadCoding, TooLarge as TooLongDeclared}
-use Rattle.sz_chunked.specs.declared.fault.ChunkFault.{ChunkFault}
-use Rattle.sz_chunked.specs.declared.fault.ChunkFault.TheVariants.{BadChunk as BadChunks, TooLarge as TooManyChunks}
-use Rattle.sz_chunked.specs.Refusal.{IsRefused as IsRefusedBody}
+use Rattle.sz_http.specs.Head.{IsUnfinished, NeverHasHead}
+use Rattle.sz_http.specs.Parts.{Parts}
+use Rattle.sz_http.specs.declared.framing.Framing.{Framing}
+use Rattle.sz_http.specs.declared.framing.Framing.TheVariants.{Chunks, UntilEnd}
+use Rattle.sz_http.specs.declared.framing.FramingFault.{FramingFault}
+use Rattle.sz_http.specs.declared.framing.FramingFault.TheVariants.{BadHead as BadFraming, Coding as BadCoding, TooLarge as TooLongDeclared}
+use Rattle.sz_http.specs.declared.chunk_fault.ChunkFault.{ChunkFault}
+use Rattle.sz_http.specs.declared.chunk_fault.ChunkFault.TheVariants.{BadChunk as BadChunks, TooLarge as TooManyChunks}
+use Rattle.sz_http.specs.ChunkRefusal.{IsRefused as IsRefusedBody}
 use Rattle.sz_http.specs.declared.side.Side.{Side}
 use Rattle.sz_http.specs.declared.fault.HttpFault.{HttpFault}
 use Rattle.sz_http.specs.declared.fault.HttpFault.TheVariants.{BadHead, BadChunk, TooLarge, Coding, EndedEarly}

@@ -3,8 +3,7 @@
 ghost use Rattle.std.specs.Prelude.{◌≡◌};
 ghost use Rattle.sz_http.specs.Verdict.{chunk_fault, framing_fault};
 
-use sz_body::FramingFault;
-use sz_chunked::ChunkFault;
+use crate::{ChunkFault, FramingFault};
 
 /// What is wrong with a message.
 #[derive(Clone, Copy, Debug, PartialEq, Eq)]

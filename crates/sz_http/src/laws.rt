@@ -2,7 +2,7 @@
 
 ghost use Rattle.std.specs.Prelude.{◌≡◌, ◌++◌, ℕ, Bool, false, List};
 ghost use Rattle.sz_http.specs.declared.side.Side.{Side};
-ghost use Rattle.sz_head.specs.Head.{EndsInsideTarget};
+ghost use Rattle.sz_http.specs.Head.{EndsInsideTarget};
 ghost use Rattle.sz_http.specs.Message.{kind_of};
 ghost use Rattle.sz_http.specs.Verdict.{ComesToAnEnd, IsFinal, Outcome, Verdict, needs_more};
 

@@ -2,12 +2,11 @@
 
 ghost use Rattle.std.specs.Prelude.{◌≡◌, ◌-◌, ◌<◌, ℕ, Bool, true, false, List, [], length, IsTrue, Ok, Err, IfOk, IfErr, IfSome, IfNone, IsErrOf, IsOkAnd, IsOk};
 
-use crate::{Fed, HttpFault, Side};
+use crate::{
+    ChunkedBody, Fed, Framing, FramingFault, Head, HeadReading, HttpFault, NoHead, Progress, Side,
+};
 use std::alloc::Global;
 use sz_base::OutOfMemory;
-use sz_body::{Framing, FramingFault};
-use sz_chunked::ChunkedBody;
-use sz_head::{Head, HeadReading, NoHead, Progress};
 
 /// A message in pieces that may be cut anywhere. It keeps the head in memory that it reserves when it is made, and
 /// gives the bytes of the body as slices of the pieces. Contracts speak of a reading by `Takes`, which names its side,
@@ -39,9 +38,9 @@ pub(crate) enum Stage {
 }
 
 impl Reading {
-    ghost use Rattle.sz_head.specs.Head.{HasNoHead, IsHead};
-    ghost use Rattle.sz_head.specs.Parts.{Parts, parts_of};
-    ghost use Rattle.sz_head.specs.Reading.{Takes as TakesHead};
+    ghost use Rattle.sz_http.specs.Head.{HasNoHead, IsHead};
+    ghost use Rattle.sz_http.specs.Parts.{Parts, parts_of};
+    ghost use Rattle.sz_http.specs.HeadReading.{Takes as TakesHead};
     ghost use Rattle.sz_http.specs.declared.fault.HttpFault.{HttpFault};
     ghost use Rattle.sz_http.specs.declared.side.Side.{Side};
     ghost use Rattle.sz_http.specs.Message.{BeginsWith, HasBody, IsFramed, kind_of};

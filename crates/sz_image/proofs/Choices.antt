@@ -28,7 +28,8 @@ use Rattle.sz_image.proofs.Rooms.{holds_from}
 pub tried_one : (texts : List (List ℕ)) (i : ℕ) (text : List ℕ) → i < length texts → text ≡ get_or texts i text → take (i + 1) texts ≡ take i texts ++ text ∷ []
 tried_one texts i text below is = take_more texts i text below ∙ ap (λ (one : List ℕ). take i texts ++ one ∷ []) (sym is)
 
-pub cut_here : (texts : List (List ℕ)) (i : ℕ) (text : List ℕ) → i < length texts → text ≡ get_or texts i text → texts ≡ take i texts ++ text ∷ drop (suc i) texts
+pub cut_here : (texts : List (List ℕ)) (i : ℕ) (text : List ℕ) → i < length texts → text ≡ get_or texts i text → texts ≡ take i texts ++ text ∷ drop
+    (suc i) texts
 cut_here texts i text below is = split_at texts i text below ∙ ap (λ (one : List ℕ). take i texts ++ one ∷ drop (suc i) texts) (sym is)
 
 -- ---- one text after others

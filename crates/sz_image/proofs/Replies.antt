@@ -2,11 +2,11 @@
 use Rattle.std.proofs.Common.{◌≡◌, ℕ, ◌+◌, ◌≤◌, Bool, true, false, List, ◌++◌, length, take, drop, refl, ap, ◌∙◌, subst, arith, append_assoc, inl, inr, Ok}
 use Rattle.std.proofs.lemmas.List.{take-append-drop}
 use Rattle.sz_base.specs.declared.image.ImageFault.{ImageFault}
-use Rattle.sz_head.specs.Head.{HasNoHead}
-use Rattle.sz_head.specs.Parts.{Parts}
-use Rattle.sz_head.specs.declared.kind.Kind.TheVariants.{Reply as ReplyKind}
-use Rattle.sz_body.specs.declared.framing.Framing.{Framing}
-use Rattle.sz_body.specs.declared.framing.Framing.TheVariants.{Length, Chunks, UntilEnd}
+use Rattle.sz_http.specs.Head.{HasNoHead}
+use Rattle.sz_http.specs.Parts.{Parts}
+use Rattle.sz_http.specs.declared.kind.Kind.TheVariants.{Reply as ReplyKind}
+use Rattle.sz_http.specs.declared.framing.Framing.{Framing}
+use Rattle.sz_http.specs.declared.framing.Framing.TheVariants.{Length, Chunks, UntilEnd}
 use Rattle.sz_http.specs.declared.side.Side.TheVariants.{Reply}
 use Rattle.sz_http.specs.declared.fault.HttpFault.{HttpFault}
 use Rattle.sz_http.specs.declared.fault.HttpFault.TheVariants.{TooLarge}
@@ -60,7 +60,8 @@ no_head_fault space most bytes closed fault is none verdict =
     no_head_small space most bytes closed none (subst (λ (f : HttpFault). Verdict Reply space bytes closed (refused f)) is verdict)
 
 -- a whole reply has a head
-pub no_head_part : (space used : ℕ) (bytes body : List ℕ) (closed : Bool) (head : Parts) → HasNoHead ReplyKind bytes → Verdict Reply space bytes closed (done_with head body used) → ⊥
+pub no_head_part : (space used : ℕ) (bytes body : List ℕ) (closed : Bool) (head : Parts) → HasNoHead ReplyKind bytes → Verdict Reply space bytes closed
+    (done_with head body used) → ⊥
 no_head_part space used bytes body closed head none message =
     framed_begins Reply space bytes (Ok message.framing) head message.after message.framed none
 
@@ -72,7 +73,8 @@ body_fits (Length n) space bytes after body rest closed head framed is = omega (
 body_fits Chunks space bytes after body rest closed head framed is = is.1
 body_fits UntilEnd space bytes after body rest closed head framed is = is.3
 
-pub whole_fits : (space used : ℕ) (bytes body : List ℕ) (closed : Bool) (head : Parts) → Verdict Reply space bytes closed (done_with head body used) → length body ≤ space
+pub whole_fits : (space used : ℕ) (bytes body : List ℕ) (closed : Bool) (head : Parts) → Verdict Reply space bytes closed
+    (done_with head body used) → length body ≤ space
 whole_fits space used bytes body closed head message =
     body_fits message.framing space bytes message.after body message.rest closed head message.framed message.is_body
 

@@ -9,8 +9,8 @@ use Rattle.sz_uri.specs.declared.uri.Uri.{Uri}
 use Rattle.sz_base.specs.declared.image.ImageFault.{ImageFault}
 use Rattle.sz_base.specs.declared.image.ImageFault.TheVariants.{DiskFault}
 use Rattle.sz_disk.specs.Room.{Held}
-use Rattle.sz_head.specs.Head.{HasNoHead}
-use Rattle.sz_head.specs.declared.kind.Kind.TheVariants.{Reply as ReplyKind}
+use Rattle.sz_http.specs.Head.{HasNoHead}
+use Rattle.sz_http.specs.declared.kind.Kind.TheVariants.{Reply as ReplyKind}
 use Rattle.sz_http.specs.declared.fed.Fed.{Fed}
 use Rattle.sz_http.specs.declared.reading.Reading.{Reading}
 use Rattle.sz_http.specs.declared.side.Side.TheVariants.{Reply}

@@ -3,11 +3,11 @@ use Rattle.std.specs.Prelude.{◌≡◌, ◌≢◌, ◌⊎◌, ℕ, ◌+◌, min
 use Rattle.sha2.specs.Sha256.{sha256}
 use Rattle.sz_base.specs.declared.image.ImageFault.{ImageFault}
 use Rattle.sz_base.specs.declared.image.ImageFault.TheVariants as image
-use Rattle.sz_head.specs.Head.{HasNoHead}
-use Rattle.sz_head.specs.Parts.{Parts}
-use Rattle.sz_head.specs.declared.kind.Kind.TheVariants.{Reply as ReplyKind}
-use Rattle.sz_body.specs.declared.framing.Framing.{Framing}
-use Rattle.sz_body.specs.declared.framing.Framing.TheVariants.{Length}
+use Rattle.sz_http.specs.Head.{HasNoHead}
+use Rattle.sz_http.specs.Parts.{Parts}
+use Rattle.sz_http.specs.declared.kind.Kind.TheVariants.{Reply as ReplyKind}
+use Rattle.sz_http.specs.declared.framing.Framing.{Framing}
+use Rattle.sz_http.specs.declared.framing.Framing.TheVariants.{Length}
 use Rattle.sz_http.specs.declared.fault.HttpFault.TheVariants as http
 use Rattle.sz_http.specs.declared.side.Side.TheVariants.{Reply}
 use Rattle.sz_http.specs.Message.{IsFramed}

@@ -1,18 +1,16 @@
 //! What the head of a reply says of an image, and why a reply that is refused gives none.
 
 ghost use Rattle.std.specs.Prelude.{◌≡◌, ℕ, Bool, List, IfOk, IfErr};
-ghost use Rattle.sz_head.specs.Head.{HasNoHead};
-ghost use Rattle.sz_head.specs.Parts.{parts_of};
-ghost use Rattle.sz_head.specs.declared.kind.Kind.TheVariants.{Reply as ReplyKind};
+ghost use Rattle.sz_http.specs.Head.{HasNoHead};
+ghost use Rattle.sz_http.specs.Parts.{parts_of};
+ghost use Rattle.sz_http.specs.declared.kind.Kind.TheVariants.{Reply as ReplyKind};
 ghost use Rattle.sz_http.specs.Message.{BeginsWith};
 ghost use Rattle.sz_http.specs.Reading.{Takes};
 ghost use Rattle.sz_http.specs.Verdict.{Verdict, refused};
 ghost use Rattle.sz_image.specs.Reply.{IsHeaded, IsRefused, size_told};
 
 use sz_base::ImageFault;
-use sz_body::{Framing, FramingFault};
-use sz_head::Kind;
-use sz_http::{Head, HttpFault, Reading, Side};
+use sz_http::{Framing, FramingFault, Head, HttpFault, Kind, Reading, Side};
 
 /// The status of a reply that has what was asked for (RFC 9110 section 15.3.1).
 const OK: u16 = 200;

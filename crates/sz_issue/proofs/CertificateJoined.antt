@@ -2,18 +2,18 @@
 use Rattle.std.proofs.Common.{◌≡◌, ℕ, Bool, List, [], ◌∷◌, ◌++◌, length, ap, ◌∙◌}
 use Rattle.sz_der.specs.Der.{Der}
 use Rattle.sz_der.specs.Items.{AppendsInteger, AppendsItem}
-use Rattle.sz_der.specs.declared.tag.TheConstants.{BIT_STRING, OBJECT_IDENTIFIER, OCTET_STRING, SEQUENCE}
+use Rattle.sz_der.specs.Tags.{bit_string_tag, object_identifier_tag, octet_string_tag, sequence_tag}
 use Rattle.sz_issue.specs.Certificate.{AreValues, AreWrittenExtensions, CertValues, constraints_extension, IsDefaultFalse, IsWrittenExtension, IsWrittenKey, IsWrittenTbs, IsWrittenValidity, key_id_extension, usage_extension}
 use Rattle.sz_issue.specs.Parts.{Appends, Holds, IsCommonName}
 use Rattle.sz_issue.proofs.SharedParts.{and_after, Der_of, from_start}
 use Rattle.sz_x509.specs.Certificate.{IsHssAlgorithm, IsVersion3, key_length}
-use Rattle.sz_x509.specs.declared.tag.TheConstants.{EXTENSIONS}
+use Rattle.sz_x509.specs.Tags.{extensions_tag}
 
 -- ---- parts
 
-pub key_written : {key octets held start first second read old new : List ℕ} → length key ≡ key_length → octets ≡ OCTET_STRING ∷ key_length ∷ key →
-    held ≡ octets → start ≡ [] → Appends IsHssAlgorithm start first → AppendsItem first second BIT_STRING (0 ∷ held) → read ≡ second →
-    AppendsItem old new SEQUENCE read → Appends (IsWrittenKey key) old new
+pub key_written : {key octets held start first second read old new : List ℕ} → length key ≡ key_length → octets ≡ octet_string_tag ∷ key_length ∷ key →
+    held ≡ octets → start ≡ [] → Appends IsHssAlgorithm start first → AppendsItem first second bit_string_tag (0 ∷ held) → read ≡ second →
+    AppendsItem old new sequence_tag read → Appends (IsWrittenKey key) old new
 key_written {start = start} {first = first} {second = second} size wrapped same empty algorithm bits is out =
     let parts = from_start start second (algorithm.part ++ bits.whole) empty
     (and_after start algorithm.part bits.whole first second algorithm.appended bits.appended) in
@@ -31,8 +31,8 @@ key_written {start = start} {first = first} {second = second} size wrapped same 
     }
 
 pub extension_written : {identifier value start first second third read old new : List ℕ} {critical : Bool} → start ≡ [] →
-    AppendsItem start first OBJECT_IDENTIFIER identifier → Appends (IsDefaultFalse critical) first second →
-    AppendsItem second third OCTET_STRING value → read ≡ third → AppendsItem old new SEQUENCE read →
+    AppendsItem start first object_identifier_tag identifier → Appends (IsDefaultFalse critical) first second →
+    AppendsItem second third octet_string_tag value → read ≡ third → AppendsItem old new sequence_tag read →
     Appends (IsWrittenExtension (record { identifier = identifier; critical = critical; value = value })) old new
 extension_written {identifier} {value} {start} {first} {second} {third} empty kind flag octets is out =
     let parts = from_start start third (kind.whole ++ (flag.part ++ octets.whole)) empty
@@ -55,7 +55,7 @@ extension_written {identifier} {value} {start} {first} {second} {third} empty ki
 pub extensions_written : {values : CertValues} {constraints usage key_id start first second third held old new : List ℕ} →
     AreValues values constraints usage key_id → start ≡ [] → Appends (IsWrittenExtension (constraints_extension constraints)) start first →
     Appends (IsWrittenExtension (usage_extension usage)) first second → Appends (IsWrittenExtension (key_id_extension key_id)) second third →
-    held ≡ third → Appends (Holds EXTENSIONS SEQUENCE held) old new → Appends (AreWrittenExtensions values) old new
+    held ≡ third → Appends (Holds extensions_tag sequence_tag held) old new → Appends (AreWrittenExtensions values) old new
 extensions_written {values} {constraints} {usage} {key_id} {start} {first} {second} {third} are_values empty a b c is out =
     let parts = from_start start third (a.part ++ (b.part ++ c.part)) empty
     (and_after start a.part (b.part ++ c.part) first third a.appended (and_after first b.part c.part second third b.appended c.appended)) in
@@ -85,7 +85,7 @@ pub tbs_written : {values : CertValues} {start a b c d e f g new read : List ℕ
     AppendsInteger a b values.serial → Appends IsHssAlgorithm b c → Appends (IsCommonName values.issuer) c d →
     Appends (IsWrittenValidity values.not_before values.not_after) d e → Appends (IsCommonName values.subject) e f →
     Appends (IsWrittenKey values.key) f g → Appends (AreWrittenExtensions values) g new → read ≡ new →
-    (bytes : List ℕ) → Der SEQUENCE read bytes → IsWrittenTbs values bytes
+    (bytes : List ℕ) → Der sequence_tag read bytes → IsWrittenTbs values bytes
 tbs_written {values} {start} {a} {b} {c} {d} {e} {f} {g} {new} empty version serial algorithm issuer validity subject key extensions is bytes out =
     let from_key = and_after f key.part extensions.part g new key.appended extensions.appended in
     let from_subject = and_after e subject.part (key.part ++ extensions.part) f new subject.appended from_key in

@@ -4,7 +4,7 @@ use Rattle.std.proofs.lemmas.List.{append-nil}
 use Rattle.sz_der.specs.Der.{Der}
 use Rattle.sz_der.specs.Items.{AppendsInteger, AppendsItem}
 use Rattle.sz_der.specs.Spots.{AreEach}
-use Rattle.sz_der.specs.declared.tag.TheConstants.{INTEGER, SEQUENCE}
+use Rattle.sz_der.specs.Tags.{integer_tag, sequence_tag}
 use Rattle.sz_x509.specs.Certificate.{IsHssAlgorithm}
 use Rattle.sz_issue.specs.Parts.{Appends, IsCommonName, IsWrittenTime}
 use Rattle.sz_issue.specs.RevocationList.{AreWrittenEntries, CrlValues, IsWrittenEntry, IsWrittenNextUpdate, IsWrittenRevoked, IsWrittenTbsList}
@@ -13,7 +13,7 @@ use Rattle.sz_issue.proofs.SharedParts.{and_after, Der_of, from_start}
 -- ---- entries
 
 pub entry_written : {date : ℤ} {serial : ℕ} {start first second read old new : List ℕ} → start ≡ [] → AppendsInteger start first serial →
-    Appends (IsWrittenTime date) first second → read ≡ second → AppendsItem old new SEQUENCE read → Appends (IsWrittenEntry date serial) old new
+    Appends (IsWrittenTime date) first second → read ≡ second → AppendsItem old new sequence_tag read → Appends (IsWrittenEntry date serial) old new
 entry_written {start = start} {first = first} {second = second} empty number time is out =
     let parts = from_start start second (number.item.whole ++ time.part) empty
     (and_after start number.item.whole time.part first second number.item.appended time.appended) in
@@ -45,9 +45,9 @@ entry_last date serials serial old new are more =
 -- ---- the whole
 
 pub list_written : (values : CrlValues) (entries : List ℕ) {start a b c d e new read : List ℕ} → AreWrittenEntries values.this_update values.serials entries →
-    start ≡ [] → AppendsItem start a INTEGER (1 ∷ []) → Appends IsHssAlgorithm a b → Appends (IsCommonName values.issuer) b c →
+    start ≡ [] → AppendsItem start a integer_tag (1 ∷ []) → Appends IsHssAlgorithm a b → Appends (IsCommonName values.issuer) b c →
     Appends (IsWrittenTime values.this_update) c d → Appends (IsWrittenNextUpdate values.next_update) d e →
-    Appends (IsWrittenRevoked values.serials entries) e new → read ≡ new → (bytes : List ℕ) → Der SEQUENCE read bytes → IsWrittenTbsList values bytes
+    Appends (IsWrittenRevoked values.serials entries) e new → read ≡ new → (bytes : List ℕ) → Der sequence_tag read bytes → IsWrittenTbsList values bytes
 list_written values entries {start} {a} {b} {c} {d} {e} {new} are empty version algorithm issuer this next revoked is bytes out =
     let from_next = and_after d next.part revoked.part e new next.appended revoked.appended in
     let from_this = and_after c this.part (next.part ++ revoked.part) d new this.appended from_next in

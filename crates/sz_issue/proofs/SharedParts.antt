@@ -9,9 +9,9 @@ use Rattle.sz_der.proofs.Values.{one_content}
 use Rattle.sz_der.specs.Der.{Der}
 use Rattle.sz_der.specs.Items.{AppendsItem}
 use Rattle.sz_der.specs.Time.{NamesTime}
-use Rattle.sz_der.specs.declared.tag.TheConstants.{OBJECT_IDENTIFIER, SEQUENCE, SET, UTF8_STRING}
+use Rattle.sz_der.specs.Tags.{object_identifier_tag, sequence_tag, set_tag, utf8_string_tag}
 use Rattle.sz_issue.specs.Parts.{Appends, Holds, is_utc, IsCommonName, IsSignedForm, IsWrittenSerial, IsWrittenTime, time_tag, time_text}
-use Rattle.sz_issue.specs.declared.parts.TheConstants.{COMMON_NAME}
+use Rattle.sz_issue.specs.Parts.{common_name_oid}
 use Rattle.sz_x509.specs.Certificate.{IsHssAlgorithm, IsTime}
 
 -- ---- what a writer joins
@@ -27,9 +27,9 @@ from_start old new parts none first = first ∙ ap (λ (x : List ℕ). x ++ part
 pub Der_of : {tag : ℕ} {content other whole : List ℕ} → content ≡ other → Der tag content whole → Der tag other whole
 Der_of {tag} {content} {other} {whole} same item = subst (λ (x : List ℕ). Der tag x whole) same item
 
-pub name_written : {text start first second held inside names old new : List ℕ} → start ≡ [] → AppendsItem start first OBJECT_IDENTIFIER COMMON_NAME →
-    AppendsItem first second UTF8_STRING text → held ≡ second → inside ≡ [] → Appends (Holds SET SEQUENCE held) inside names →
-    (read : List ℕ) → read ≡ names → AppendsItem old new SEQUENCE read → Appends (IsCommonName text) old new
+pub name_written : {text start first second held inside names old new : List ℕ} → start ≡ [] → AppendsItem start first object_identifier_tag common_name_oid →
+    AppendsItem first second utf8_string_tag text → held ≡ second → inside ≡ [] → Appends (Holds set_tag sequence_tag held) inside names →
+    (read : List ℕ) → read ≡ names → AppendsItem old new sequence_tag read → Appends (IsCommonName text) old new
 name_written {text} {start} {first} {second} {held} {inside} {names} {old} {new} empty kind value same none holder read is out =
     let attribute = from_start start second (kind.whole ++ value.whole) empty
     (and_after start kind.whole value.whole first second kind.appended value.appended) in

@@ -3,13 +3,13 @@ use Rattle.std.specs.Prelude.{◌≡◌, ℕ, ℤ, pos, ◌+◌, ◌^◌, if◌t
 use Rattle.sha2.specs.Sha256.{sha256}
 use Rattle.sz_der.specs.Der.{Der}
 use Rattle.sz_der.specs.Integer.{IsIntegerOf}
-use Rattle.sz_der.specs.declared.tag.TheConstants.{BIT_STRING, BOOLEAN, OBJECT_IDENTIFIER, OCTET_STRING, SEQUENCE}
+use Rattle.sz_der.specs.Tags.{bit_string_tag, boolean_tag, object_identifier_tag, octet_string_tag, sequence_tag}
 use Rattle.sz_issue.specs.Parts.{IsCommonName, IsWrittenSerial, IsWrittenTime}
 use Rattle.sz_issue.specs.declared.cert.CertSpec.{CertSpec}
 use Rattle.sz_x509.specs.Certificate.{Certificate, IsHssAlgorithm, IsVersion3, key_length}
 use Rattle.sz_x509.specs.Extensions.{Extension, IsPathLength, Restrictions}
-use Rattle.sz_x509.specs.declared.identifier.TheConstants.{BASIC_CONSTRAINTS, KEY_USAGE, SUBJECT_KEY_IDENTIFIER}
-use Rattle.sz_x509.specs.declared.tag.TheConstants.{EXTENSIONS}
+use Rattle.sz_x509.specs.Identifiers.{basic_constraints_oid, key_usage_oid, subject_key_identifier_oid}
+use Rattle.sz_x509.specs.Tags.{extensions_tag}
 
 -- What a certificate is to say. Names are the octets of their texts; times are seconds since 1970.
 pub record CertValues : Type 0 where
@@ -25,17 +25,17 @@ pub record CertValues : Type 0 where
 -- BOOLEAN DEFAULT FALSE: false is not spelled out (X.690 section 11.5), and true has all bits set (11.1)
 abbrev pub IsDefaultFalse : Bool → List ℕ → Type 0
 IsDefaultFalse false bytes = bytes ≡ []
-IsDefaultFalse true bytes = Der BOOLEAN (255 ∷ []) bytes
+IsDefaultFalse true bytes = Der boolean_tag (255 ∷ []) bytes
 
 -- Extension (4.1)
 pub record IsWrittenExtension (extension : Extension) (bytes : List ℕ) : Type 0 where
   pub identifier : List ℕ
   pub flag : List ℕ
   pub value : List ℕ
-  pub is_identifier : Der OBJECT_IDENTIFIER extension.identifier identifier
+  pub is_identifier : Der object_identifier_tag extension.identifier identifier
   pub is_flag : IsDefaultFalse extension.critical flag
-  pub is_value : Der OCTET_STRING extension.value value
-  pub is_sequence : Der SEQUENCE (identifier ++ (flag ++ value)) bytes
+  pub is_value : Der octet_string_tag extension.value value
+  pub is_sequence : Der sequence_tag (identifier ++ (flag ++ value)) bytes
 
 -- Validity (4.1.2.5), the first second and then the last
 pub record IsWrittenValidity (not_before not_after : ℤ) (bytes : List ℕ) : Type 0 where
@@ -43,7 +43,7 @@ pub record IsWrittenValidity (not_before not_after : ℤ) (bytes : List ℕ) : T
   pub last : List ℕ
   pub is_first : IsWrittenTime not_before first
   pub is_last : IsWrittenTime not_after last
-  pub is_sequence : Der SEQUENCE (first ++ last) bytes
+  pub is_sequence : Der sequence_tag (first ++ last) bytes
 
 -- SubjectPublicKeyInfo (4.1.2.7), with the key as an OCTET STRING of 60 octets in the BIT STRING (RFC 8708 section 4)
 pub record IsWrittenKey (key bytes : List ℕ) : Type 0 where
@@ -51,8 +51,8 @@ pub record IsWrittenKey (key bytes : List ℕ) : Type 0 where
   pub algorithm : List ℕ
   pub bits : List ℕ
   pub is_algorithm : IsHssAlgorithm algorithm
-  pub is_bits : Der BIT_STRING (0 ∷ OCTET_STRING ∷ key_length ∷ key) bits
-  pub is_sequence : Der SEQUENCE (algorithm ++ bits) bytes
+  pub is_bits : Der bit_string_tag (0 ∷ octet_string_tag ∷ key_length ∷ key) bits
+  pub is_sequence : Der sequence_tag (algorithm ++ bits) bytes
 
 -- BasicConstraints (4.2.1.9)
 pub record IsWrittenConstraints (ca : Bool) (path_len : Option ℕ) (bytes : List ℕ) : Type 0 where
@@ -60,7 +60,7 @@ pub record IsWrittenConstraints (ca : Bool) (path_len : Option ℕ) (bytes : Lis
   pub path : List ℕ
   pub is_flag : IsDefaultFalse ca flag
   pub is_path : IsPathLength path_len path
-  pub is_sequence : Der SEQUENCE (flag ++ path) bytes
+  pub is_sequence : Der sequence_tag (flag ++ path) bytes
 
 -- KeyUsage (4.2.1.3): digitalSignature, and for an authority keyCertSign and cRLSign; bit k has the value 2^k
 abbrev pub usage_of : Bool → ℕ
@@ -78,18 +78,18 @@ key_id_of key = take 20 (sha256 key)
 -- the octets of the values of the three extensions
 pub record AreValues (values : CertValues) (constraints usage key_id : List ℕ) : Type 0 where
   pub are_constraints : IsWrittenConstraints values.ca values.path_len constraints
-  pub is_usage : Der BIT_STRING (usage_octets values.ca) usage
-  pub is_key_id : Der OCTET_STRING (key_id_of values.key) key_id
+  pub is_usage : Der bit_string_tag (usage_octets values.ca) usage
+  pub is_key_id : Der octet_string_tag (key_id_of values.key) key_id
 
 -- the extensions, in their order; the first two are critical
 abbrev pub constraints_extension : List ℕ → Extension
-constraints_extension value = record { identifier = BASIC_CONSTRAINTS; critical = true; value = value }
+constraints_extension value = record { identifier = basic_constraints_oid; critical = true; value = value }
 
 abbrev pub usage_extension : List ℕ → Extension
-usage_extension value = record { identifier = KEY_USAGE; critical = true; value = value }
+usage_extension value = record { identifier = key_usage_oid; critical = true; value = value }
 
 abbrev pub key_id_extension : List ℕ → Extension
-key_id_extension value = record { identifier = SUBJECT_KEY_IDENTIFIER; critical = false; value = value }
+key_id_extension value = record { identifier = subject_key_identifier_oid; critical = false; value = value }
 
 -- `[3]` and its SEQUENCE (4.1.2.9)
 pub record AreWrittenExtensions (values : CertValues) (bytes : List ℕ) : Type 0 where
@@ -104,8 +104,8 @@ pub record AreWrittenExtensions (values : CertValues) (bytes : List ℕ) : Type 
   pub is_second : IsWrittenExtension (usage_extension usage) second
   pub is_third : IsWrittenExtension (key_id_extension key_id) third
   pub sequence : List ℕ
-  pub is_sequence : Der SEQUENCE (first ++ (second ++ third)) sequence
-  pub is_field : Der EXTENSIONS sequence bytes
+  pub is_sequence : Der sequence_tag (first ++ (second ++ third)) sequence
+  pub is_field : Der extensions_tag sequence bytes
 
 -- ---- the whole
 
@@ -127,7 +127,7 @@ pub record IsWrittenTbs (values : CertValues) (bytes : List ℕ) : Type 0 where
   pub is_subject : IsCommonName values.subject subject
   pub is_key : IsWrittenKey values.key key
   pub are_extensions : AreWrittenExtensions values extensions
-  pub is_sequence : Der SEQUENCE
+  pub is_sequence : Der sequence_tag
       (version ++ (serial ++ (algorithm ++ (issuer ++ (validity ++ (subject ++ (key ++ extensions))))))) bytes
 
 -- ---- what a certificate that was written says

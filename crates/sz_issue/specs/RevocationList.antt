@@ -4,7 +4,7 @@ use Rattle.std.specs.List.{Any}
 use Rattle.sz_der.specs.Der.{Der}
 use Rattle.sz_der.specs.Integer.{IsIntegerOf}
 use Rattle.sz_der.specs.Spots.{AreEach}
-use Rattle.sz_der.specs.declared.tag.TheConstants.{INTEGER, SEQUENCE}
+use Rattle.sz_der.specs.Tags.{integer_tag, sequence_tag}
 use Rattle.sz_x509.specs.Certificate.{IsHssAlgorithm}
 use Rattle.sz_x509.specs.CrlView.{seconds_of}
 use Rattle.sz_x509.specs.RevocationList.{AreEntries, is_listed, RevocationList}
@@ -20,7 +20,7 @@ pub record CrlValues : Type 0 where
 
 -- Version (5.1.2.1), the INTEGER 1, which is version 2
 abbrev pub IsVersion2 : List ℕ → Type 0
-IsVersion2 bytes = Der INTEGER (1 ∷ []) bytes
+IsVersion2 bytes = Der integer_tag (1 ∷ []) bytes
 
 -- nextUpdate (5.1.2.5), or nothing where none is given
 abbrev pub IsWrittenNextUpdate : Option ℤ → List ℕ → Type 0
@@ -33,7 +33,7 @@ pub record IsWrittenEntry (date : ℤ) (serial : ℕ) (bytes : List ℕ) : Type 
   pub time : List ℕ
   pub is_number : IsWrittenSerial serial number
   pub is_date : IsWrittenTime date time
-  pub is_sequence : Der SEQUENCE (number ++ time) bytes
+  pub is_sequence : Der sequence_tag (number ++ time) bytes
 
 -- an entry of each serial number, in their order, all of one date
 abbrev pub AreWrittenEntries : ℤ → List ℕ → List ℕ → Type 0
@@ -42,7 +42,7 @@ AreWrittenEntries date serials bytes = AreEach (IsWrittenEntry date) serials byt
 -- revokedCertificates (5.1.2.6) of these entries, or nothing where no serial number is given
 abbrev pub IsWrittenRevoked : List ℕ → List ℕ → List ℕ → Type 0
 IsWrittenRevoked [] entries bytes = bytes ≡ []
-IsWrittenRevoked (serial ∷ serials) entries bytes = Der SEQUENCE entries bytes
+IsWrittenRevoked (serial ∷ serials) entries bytes = Der sequence_tag entries bytes
 
 -- TBSCertList (5.1.2), without extensions. The entries are of thisUpdate.
 pub record IsWrittenTbsList (values : CrlValues) (bytes : List ℕ) : Type 0 where
@@ -60,7 +60,7 @@ pub record IsWrittenTbsList (values : CrlValues) (bytes : List ℕ) : Type 0 whe
   pub is_next_update : IsWrittenNextUpdate values.next_update next_update
   pub are_entries : AreWrittenEntries values.this_update values.serials entries
   pub is_revoked : IsWrittenRevoked values.serials entries revoked
-  pub is_sequence : Der SEQUENCE
+  pub is_sequence : Der sequence_tag
       (version ++ (algorithm ++ (issuer ++ (this_update ++ (next_update ++ revoked))))) bytes
 
 -- ---- what a list that was written says

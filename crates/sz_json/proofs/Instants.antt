@@ -1,7 +1,6 @@
 -- What is read as a date and a time of day is a second that has a date.
-use Rattle.std.proofs.Common.{◌≡◌, ℕ, ◌&&◌, Bool, true, false, if◌then◌else◌, List, Option, Some, None, IfSome, option_and_then, Result, Ok, Err, refl, subst, arith, ℤ, ◌-ℤ◌}
+use Rattle.std.proofs.Common.{◌≡◌, ℕ, Bool, true, false, if◌then◌else◌, List, Option, Some, None, IfSome, option_and_then, Result, Ok, Err, refl, subst, arith, ℤ, ◌-ℤ◌}
 use Rattle.std.proofs.lemmas.Int.{ints}
-use Rattle.std.specs.Int.Signed.{le_z}
 use Rattle.std.specs.Result.{result_ok}
 use Rattle.jiff_core.specs.declared.civil.date.Date.{Date}
 use Rattle.jiff_core.specs.declared.civil.time.Time.{Time}
@@ -13,7 +12,7 @@ use Rattle.sz_calendar.proofs.Days.{IsDate_from_jiff}
 use Rattle.sz_calendar.proofs.Seconds.{IsDated-unix_seconds}
 use Rattle.sz_calendar.specs.CivilTime.{IsDated, IsReal, unix_seconds}
 use Rattle.sz_json.proofs.Readings.{form_from_optional, form_from_required}
-use Rattle.sz_json.specs.Form.{civil_of, date_time_of, if_dated, is_dated, IsInstant, second_of, seconds_of, text_of}
+use Rattle.sz_json.specs.Form.{civil_of, date_time_of, is_dated, IsInstant, second_of, seconds_of, text_of}
 use Rattle.sz_json.specs.Member.{optional, required}
 use Rattle.sz_json.specs.declared.name.Name.{Name}
 
@@ -40,7 +39,8 @@ dated_if true second seconds e h =
     let same : here ≡ seconds = cc in
     subst IsInstant same (IsDated-where second e)
 
-of_parts : (date : DateParts) (time : Option TimeParts) (offset : Option OffsetPiece) (seconds : Seconds) → second_of date time offset ≡ Some seconds → IsInstant seconds
+of_parts : (date : DateParts) (time : Option TimeParts) (offset : Option OffsetPiece)
+    (seconds : Seconds) → second_of date time offset ≡ Some seconds → IsInstant seconds
 of_parts date None offset seconds h = cc
 of_parts date (Some time) None seconds h = cc
 of_parts date (Some time) (Some offset) seconds h =

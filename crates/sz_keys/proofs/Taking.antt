@@ -16,21 +16,25 @@ Took told begun now message =
 whole_front : (n : ℕ) (file : List ℕ) → length file ≤ n → take n file ≡ file
 whole_front n file long = take_all n file long
 
-pub took_whole : (told : Option FileMap) (path : List ℕ) (begun now : HssCheck) (size n : ℕ) → IfSome told (λ files. size ≡ length (readable_at files path)) → size ≤ n
+pub took_whole : (told : Option FileMap) (path : List ℕ) (begun now : HssCheck) (size n : ℕ) → IfSome told
+    (λ files. size ≡ length (readable_at files path)) → size ≤ n
     → Took told begun now (λ files. take n (readable_at files path)) → Took told begun now (λ files. readable_at files path)
 took_whole None path begun now size n size_is long took = tt
 took_whole (Some files) path begun now size n size_is long took = λ public signature checks.
     subst (λ (message : List ℕ). Checks now public signature message) (whole_front n (readable_at files path) (omega arith)) (took public signature checks)
 
 pub took_more : (told now : Option FileMap) (path piece more : List ℕ) (begun before after : HssCheck) (n count : ℕ) → now ≡ told
-    → Took told begun before (λ files. take n (readable_at files path)) → IfSome now (λ files. more ≡ take count (drop n (readable_at files path))) → piece ≡ more
+    → Took told begun before (λ files. take n (readable_at files path)) → IfSome now
+    (λ files. more ≡ take count (drop n (readable_at files path))) → piece ≡ more
     → ((public signature message : List ℕ) → Checks before public signature message → Checks after public signature (message ++ piece))
     → Took told begun after (λ files. take (n + count) (readable_at files path))
 took_more None now path piece more begun before after n count same took read piece_is step = tt
 took_more (Some files) now path piece more begun before after n count same took read piece_is step = λ public signature checks.
     let here : more ≡ take count (drop n (readable_at files path)) = (rw same at read) in
-    let joined : take n (readable_at files path) ++ piece ≡ take (n + count) (readable_at files path) = rw (take-add n count (readable_at files path), piece_is, here) refl in
-    subst (λ (message : List ℕ). Checks after public signature message) joined (step public signature (take n (readable_at files path)) (took public signature checks))
+    let joined : take n (readable_at files path) ++ piece ≡ take (n + count) (readable_at files path) = rw
+    (take-add n count (readable_at files path), piece_is, here) refl in
+    subst (λ (message : List ℕ). Checks after public signature message) joined
+    (step public signature (take n (readable_at files path)) (took public signature checks))
 
 -- the rule that is found broken is the first on the whole file
 pub ruled : (told : Option FileMap) (path public signature : List ℕ) (begun now : HssCheck) (rule : Option Rule) → Checks begun public signature []

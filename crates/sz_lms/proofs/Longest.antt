@@ -7,9 +7,9 @@ use Rattle.std.proofs.lemmas.List.{drop-take, take-take}
 use Rattle.std.specs.Int.{w32, from_be_bytes}
 use Rattle.sz_lms.specs.Bits.{u32_at}
 use Rattle.sz_lms.specs.Ots.{OtsType, ots_type}
-use Rattle.sz_lms.specs.Lms.{LmsOk, height_of}
+use Rattle.sz_lms.specs.Lms.{height_of}
 use Rattle.sz_lms.specs.Hss.{HssOk, LevelsOk}
-use Rattle.sz_lms.specs.Rules.{Rule, Length, Levels, Scheme, LeafNumber, TreeType, climb_rules, first_failing, head_rules, hss_first, hss_rules, level_rules, lms_length, next_bytes, next_key, ots_length, signature_rules, tree_type, where_known}
+use Rattle.sz_lms.specs.Rules.{Rule, Length, Levels, Scheme, LeafNumber, TreeType, first_failing, head_rules, hss_first, hss_rules, level_rules, lms_length, next_bytes, next_key, ots_length, signature_rules, tree_type, where_known}
 use Rattle.sz_lms.proofs.LawHss.{levels_key}
 use Rattle.sz_lms.proofs.LawLms.{both_parts, height_small, ok_length, ok_whole_level, types_of}
 use Rattle.sz_lms.proofs.LawTests.{Pass, pass_append, pass_known, pass_one}
@@ -105,7 +105,8 @@ same_where : {T : Type 0} (o : Option T) (f g : T → List (Bool × Rule)) → (
 same_where None f g same = refl
 same_where (Some type) f g same = same type refl
 
-levels_of_front : (n : ℕ) (key : List ℕ) (c : ℕ) (bytes : List ℕ) → most_of n < c → c ≤ length bytes → level_rules n key (take c bytes) ≡ level_rules n key bytes
+levels_of_front : (n : ℕ) (key : List ℕ) (c : ℕ) (bytes : List ℕ) → most_of n < c → c ≤ length bytes → level_rules n key
+    (take c bytes) ≡ level_rules n key bytes
 unfolding level_rules
 levels_of_front zero key c bytes room whole =
     same_where (tree_type key) _ _ (λ type known.
@@ -124,7 +125,8 @@ levels_of_front (suc n) key c bytes room whole =
     let long : rest ≤ length (next_bytes type bytes) = omega (arith, length-drop at bytes) in
     let below : level_rules n (next_key type (take c bytes)) (next_bytes type (take c bytes)) ≡ level_rules n (next_key type bytes) (next_bytes type bytes) =
     ap₂ (level_rules n) key_is behind ∙ levels_of_front n (next_key type bytes) rest (next_bytes type bytes) (omega (arith, few)) long in
-    ap (λ (rules : List (Bool × Rule)). rules ++ (nat_le at (length (take c bytes)), Length) ∷ level_rules n (next_key type (take c bytes)) (next_bytes type (take c bytes)))
+    ap (λ (rules : List (Bool × Rule)). rules ++ (nat_le at (length (take c bytes)), Length) ∷ level_rules n (next_key type (take c bytes))
+    (next_bytes type (take c bytes)))
     (signature_rules_of_front key type c bytes (omega (arith, few)) whole)
     ∙ ap₂ (λ (there : Bool) (rules : List (Bool × Rule)). signature_rules key type bytes ++ (there, Length) ∷ rules)
     (enough_in_both c bytes whole at (omega (arith, few))) below)
@@ -136,7 +138,8 @@ levels_fail zero key bytes long pass =
     let known = pass_known (tree_type key) (λ type. signature_rules key type bytes ++ (nat_eq (length bytes) (lms_length type), Length) ∷ []) pass in
     let type : TreeType = known.0 in
     let parts = pass_append (signature_rules key type bytes) ((nat_eq (length bytes) (lms_length type), Length) ∷ []) known.2 in
-    let whole : length bytes ≡ lms_length type = eqb-true (length bytes) (lms_length type) (pass_one (nat_eq (length bytes) (lms_length type)) Length [] parts.1).0 in
+    let whole : length bytes ≡ lms_length type = eqb-true (length bytes) (lms_length type)
+    (pass_one (nat_eq (length bytes) (lms_length type)) Length [] parts.1).0 in
     omega (arith, within_longest key type known.1)
 levels_fail (suc n) key bytes long pass =
     let known = pass_known (tree_type key) (λ type. signature_rules key type bytes

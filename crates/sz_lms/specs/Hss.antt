@@ -17,8 +17,8 @@ most_levels = 8
 abbrev pub hss_public_length : ℕ
 hss_public_length = 60
 
--- the most bytes that an LMS signature has: the leaf's number, a one-time signature of 265 chains, the tree's type and a
--- path of 25 nodes (sections 4.1 and 5.1)
+-- the most bytes that an LMS signature has: the leaf's number, a one-time signature of 265 chains, the tree's type and
+-- a path of 25 nodes (sections 4.1 and 5.1)
 abbrev pub longest_lms_signature : ℕ
 longest_lms_signature = 4 + (4 + 32 + 32 * 265) + 4 + 32 * 25
 

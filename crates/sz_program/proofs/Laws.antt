@@ -66,7 +66,8 @@ unsigned_only paths (Some files) (Ok (Some rule)) may is = may.1
 unsigned_only paths (Some files) (Err failed) may is = absurd (not_invalid failed is)
 
 -- an answer that blames neither the folder nor memory is the one over the files
-exact_only : (paths : Paths) (files : FileMap) (answer : Answer) → MayAnswer paths (Some files) answer → (is_file_fault answer ≡ true → ⊥) → status_of answer ≢ 70
+exact_only : (paths : Paths) (files : FileMap) (answer : Answer) → MayAnswer paths (Some files) answer →
+    (is_file_fault answer ≡ true → ⊥) → status_of answer ≢ 70
     → answer_over files paths ≡ answer
 exact_only paths files (Ok None) may whole room = may.0
 exact_only paths files (Ok (Some rule)) may whole room = may.0
@@ -99,9 +100,11 @@ missing (Some x) (Some y) (Some z) verdict p q r path ok is = absurd (ok x y z i
 no_file : (rule : Option Rule) (path : List ℕ) (answer : Answer) → answer ≡ Ok rule → answer ≡ Err (NoFile path) → ⊥
 no_file rule path answer is_ok is_err = cc
 
-lacks : (files : FileMap) (paths : Paths) (path : List ℕ) → answer_over files paths ≡ Err (NoFile path) → (named : List ℕ) × Names paths named × (bytes_at files named ≡ None)
+lacks : (files : FileMap) (paths : Paths) (path : List ℕ) → answer_over files paths ≡ Err (NoFile path) → (named : List ℕ) × Names paths named ×
+    (bytes_at files named ≡ None)
 lacks files paths path is =
-    elim (missing (bytes_at files paths.public) (bytes_at files paths.file) (bytes_at files paths.signature) (λ x y z. Ok (hss_first x y z)) paths.public paths.file paths.signature path
+    elim (missing (bytes_at files paths.public) (bytes_at files paths.file) (bytes_at files paths.signature)
+    (λ x y z. Ok (hss_first x y z)) paths.public paths.file paths.signature path
     (λ x y z ok. no_file (hss_first x y z) path (Ok (hss_first x y z)) refl ok) is) [
       | inl none ↦ (paths.public, inl refl, none)
       | inr others ↦ elim others [ inl none ↦ (paths.file, inr (inl refl), none) | inr none ↦ (paths.signature, inr (inr refl), none) ]
@@ -145,7 +148,12 @@ module _ {D : Type 0} (seen : D → Seen) (before after : Outside D) (status : �
           | inr others ↦ elim others [
             | inl three_is ↦ inr (inl three_is)
             | inr rest ↦ elim rest [
-              | inl file_is ↦ inr (inr (inr (inr (file_is, blamed paths before.folder.files c.answer before.folder.faults after.folder.faults c.ran.may c.ran.cause (sym printed.0 ∙ file_is)))))
+              | inl file_is ↦ inr (inr
+                  (inr (inr (
+                    file_is,
+                    blamed paths before.folder.files c.answer before.folder.faults after.folder.faults c.ran.may c.ran.cause
+                        (sym printed.0 ∙ file_is),
+                  ))))
               | inr memory_is ↦ inr (inr (inl memory_is))
             ]
           ]
@@ -251,7 +259,8 @@ module _ {D : Type 0} (seen : D → Seen) (before after : Outside D) (status : �
       (status ≡ status_of (answer_over files paths)) × Appends before.out.written after.out.written (text_of (answer_over files paths)))
   exact words paths ran is output room stood =
       let c = checked words paths ran is room output in
-      exact_told paths before.folder.files c.answer status before.out.written after.out.written c.ran.may (λ failed. stood (c.ran.cause.rose failed)) room (own_of paths c room output)
+      exact_told paths before.folder.files c.answer status before.out.written after.out.written c.ran.may (λ failed. stood (c.ran.cause.rose failed)) room
+      (own_of paths c room output)
 
   -- ---- the failures of the commands of a device
 
@@ -330,7 +339,15 @@ module _ {D : Type 0} (seen : D → Seen) (before after : Outside D) (status : �
   does_usage (Some (Check paths)) does is =
       elim (check_ends paths does) [
         | inl e ↦ absurd (omega arith)
-        | inr f ↦ elim f [ inl e ↦ absurd (omega arith) | inr g ↦ elim g [ inl e ↦ absurd (omega arith) | inr h ↦ elim h [ inl e ↦ absurd (omega arith) | inr e ↦ let e = e.0 in absurd (omega arith) ] ] ]
+        | inr f ↦ elim f [
+          | inl e ↦ absurd
+              (omega arith)
+          | inr g ↦ elim g [
+            | inl e ↦ absurd
+                (omega arith)
+            | inr h ↦ elim h [ inl e ↦ absurd (omega arith) | inr e ↦ let e = e.0 in absurd (omega arith) ]
+          ]
+        ]
       ]
   does_usage (Some (Keygen words)) does is =
       absurd (never-usage does.answer (keygen-possible seen words (keygen_part before) (keygen_part after) does.answer does.ran)
@@ -342,18 +359,31 @@ module _ {D : Type 0} (seen : D → Seen) (before after : Outside D) (status : �
   usage_of : (words : List (List ℕ)) → RunOk seen words before after status → status ≡ 2 → IsNoCommand words
   usage_of words (inl does) is = does_usage (words_of words) does is
   usage_of words (inr memory) is =
-      elim (failure_ends OutOfMemory memory) [ inl own ↦ absurd (omega arith) | inr other ↦ elim other [ inl o ↦ absurd (omega arith) | inr r ↦ absurd (omega arith) ] ]
+      elim (failure_ends OutOfMemory memory) [
+        | inl own ↦ absurd
+            (omega arith)
+        | inr other ↦ elim other [ inl o ↦ absurd (omega arith) | inr r ↦ absurd (omega arith) ]
+      ]
 
   -- a run that only prints a failure's line has none of these statuses
-  quiet_status : (failed : Failure) (own : ℕ) → failure.status_of failed ≡ own → EndsBy failed before after status → (n : ℕ) → status ≡ n → own ≢ n → 32 ≢ n → 70 ≢ n → ⊥
+  quiet_status : (failed : Failure) (own : ℕ) → failure.status_of failed ≡ own → EndsBy failed before after status →
+      (n : ℕ) → status ≡ n → own ≢ n → 32 ≢ n → 70 ≢ n → ⊥
   quiet_status failed own own_is e n is differs output memory =
-      elim (failure_ends failed e) [ inl o ↦ differs (sym own_is ∙ sym o ∙ is) | inr other ↦ elim other [ inl o ↦ output (sym o ∙ is) | inr r ↦ memory (sym r ∙ is) ] ]
+      elim (failure_ends failed e) [
+        | inl o ↦ differs
+            (sym own_is ∙ sym o ∙ is)
+        | inr other ↦ elim other [ inl o ↦ output (sym o ∙ is) | inr r ↦ memory (sym r ∙ is) ]
+      ]
 
   check_never : (paths : Paths) → Checks paths before after status → (n : ℕ) → status ≡ n → 0 ≢ n → 3 ≢ n → 32 ≢ n → 33 ≢ n → 70 ≢ n → ⊥
   check_never paths c n is a b d e f =
       elim (check_ends paths c) [
         | inl o ↦ a (sym o ∙ is)
-        | inr p ↦ elim p [ inl o ↦ b (sym o ∙ is) | inr q ↦ elim q [ inl o ↦ f (sym o ∙ is) | inr r ↦ elim r [ inl o ↦ d (sym o ∙ is) | inr o ↦ e (sym o.0 ∙ is) ] ] ]
+        | inr p ↦ elim p [
+          | inl o ↦ b
+              (sym o ∙ is)
+          | inr q ↦ elim q [ inl o ↦ f (sym o ∙ is) | inr r ↦ elim r [ inl o ↦ d (sym o ∙ is) | inr o ↦ e (sym o.0 ∙ is) ] ]
+        ]
       ]
 
   -- only a check and an audit end with a finding
@@ -563,7 +593,11 @@ module _ {D : Type 0} (seen : D → Seen) (before after : Outside D) (status : �
   causes words ran = record {
     usage = usage_of words ran;
     not_valid = three_of words ran;
-    disk = λ is. elim ran [ inl does ↦ does_disk (words_of words) does is | inr memory ↦ absurd (memory_not memory 30 is (λ x. omega arith) (λ x. omega arith)) ];
+    disk = λ is. elim ran [
+      | inl does ↦ does_disk (words_of words) does is
+      | inr memory ↦ absurd
+          (memory_not memory 30 is (λ x. omega arith) (λ x. omega arith))
+    ];
     restart = λ is. elim ran [
       | inl does ↦ does_restart (words_of words) does is
       | inr memory ↦ absurd (memory_not memory 10 is (λ x. omega arith) (λ x. omega arith))
@@ -577,7 +611,16 @@ module _ {D : Type 0} (seen : D → Seen) (before after : Outside D) (status : �
       | inr memory ↦ absurd (memory_not memory 31 is (λ x. omega arith) (λ x. omega arith))
     ];
     output = λ is. (run_output words ran).rose (is_32 status is);
-    file = λ is. elim ran [ inl does ↦ does_file (words_of words) does is | inr memory ↦ absurd (memory_not memory 33 is (λ x. omega arith) (λ x. omega arith)) ];
-    entropy = λ is. elim ran [ inl does ↦ does_entropy (words_of words) does is | inr memory ↦ absurd (memory_not memory 34 is (λ x. omega arith) (λ x. omega arith)) ];
-    listener = λ is. absurd (elim ran [ inl does ↦ does_listener (words_of words) does is | inr memory ↦ memory_not memory 35 is (λ x. omega arith) (λ x. omega arith) ]);
+    file = λ is. elim ran [
+      | inl does ↦ does_file (words_of words) does is
+      | inr memory ↦ absurd
+          (memory_not memory 33 is (λ x. omega arith) (λ x. omega arith))
+    ];
+    entropy = λ is. elim ran [
+      | inl does ↦ does_entropy (words_of words) does is
+      | inr memory ↦ absurd
+          (memory_not memory 34 is (λ x. omega arith) (λ x. omega arith))
+    ];
+    listener = λ is. absurd
+        (elim ran [ inl does ↦ does_listener (words_of words) does is | inr memory ↦ memory_not memory 35 is (λ x. omega arith) (λ x. omega arith) ]);
   }

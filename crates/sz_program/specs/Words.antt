@@ -70,7 +70,8 @@ abbrev pub keygen_matched : List Row → Option Command
 keygen_matched rows =
     option_and_then (λ levels.
     option_and_then (λ public.
-    option_and_then (λ key. with_disk_beside key public (Keygen (record { levels = levels; public = public; key = key })))
+    option_and_then (λ key.
+    with_disk_beside key public (Keygen (record { levels = levels; public = public; key = key })))
     (first_of (codes "KEY") rows)) (first_of (codes "PUBLIC") rows)) (first_of (codes "LEVELS") rows)
 
 abbrev pub sign_form : App

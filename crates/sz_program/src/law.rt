@@ -88,7 +88,8 @@ pub fn an_undisturbed_run_is_complete<D: Disk>()
 }
 
 /// A run ends with the number of an ending, or with that of an output that failed. A command other than an onboard,
-/// whose files and disks are there and over which no count rises, is done or ends by what it found, or by want of memory.
+/// whose files and disks are there and over which no count rises, is done or ends by what it found, or by want of
+/// memory.
 pub fn statuses_are_those_of_endings<D: Disk>()
     ensures each { (words : List (List ℕ)) (before after : Outside D) (status : ℕ)
         → RunOk D.seen words before after status → IsStatus status }

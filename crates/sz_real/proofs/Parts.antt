@@ -78,7 +78,8 @@ PutsAt-trans at xs ys old mid new first second = record {
 }
 
 -- the same where the file may tell nothing
-pub TakesPart-trans : (a b c : Option (List ℕ)) (at : ℕ) (xs ys : List ℕ) → TakesPart a b at xs → TakesPart b c (at + length xs) ys → TakesPart a c at (xs ++ ys)
+pub TakesPart-trans : (a b c : Option (List ℕ)) (at : ℕ) (xs ys : List ℕ) → TakesPart a b at xs → TakesPart b c (at + length xs) ys → TakesPart a c at
+    (xs ++ ys)
 TakesPart-trans None b c at xs ys p q = subst (λ m. TakesPart m c (at + length xs) ys) p q
 TakesPart-trans (Some x) None c at xs ys p q = absurd p
 TakesPart-trans (Some x) (Some y) None at xs ys p q = absurd q
@@ -96,5 +97,6 @@ pub wrote_more : (a b c : Option (List ℕ)) (at done count : ℕ) (bytes : List
 wrote_more a b c at done count bytes room first second =
     let next : TakesPart b c (at + done) (take count (drop done bytes)) = rw (take_rest bytes done) at second in
     let size : done ≡ length (take done bytes) = sym (length-take-le done bytes room) in
-    let behind : TakesPart b c (at + length (take done bytes)) (take count (drop done bytes)) = subst (λ n. TakesPart b c (at + n) (take count (drop done bytes))) size next in
+    let behind : TakesPart b c (at + length (take done bytes)) (take count (drop done bytes)) = subst
+    (λ n. TakesPart b c (at + n) (take count (drop done bytes))) size next in
     subst (TakesPart a c at) (sym (take-add done count bytes)) (TakesPart-trans a b c at (take done bytes) (take count (drop done bytes)) first behind)

@@ -145,7 +145,8 @@ impl<S: Read + Write + OpenStream> Connection<S> {
         into: &mut [u8],
     ) -> io::Result<usize>
         ensures within { ReadsAtMost result into.new }
-        ensures bytes { ReadConsumes (S.Read.remaining self.old.stream) (S.Read.remaining self.new.stream) result into.new }
+        ensures bytes { ReadConsumes (S.Read.remaining self.old.stream) (S.Read.remaining self.new.stream) result
+            into.new }
     {
         for _ in 0..u64::MAX {
             let wait = self.wait(limits, start, clock.monotonic()?)?;
@@ -168,7 +169,8 @@ impl<S: Read + Write + OpenStream> Connection<S> {
     ) -> io::Result<usize>
         ensures within { WritesAtMost result bytes.now }
         ensures moves { IfOk result (λ count. 0 < length bytes.now → 0 < count) }
-        ensures taken { WriteAppends (S.Write.contents self.old.stream) (S.Write.contents self.new.stream) result bytes.now }
+        ensures taken { WriteAppends (S.Write.contents self.old.stream) (S.Write.contents self.new.stream) result
+            bytes.now }
     {
         for _ in 0..u64::MAX {
             let wait = self.wait(limits, start, clock.monotonic()?)?;

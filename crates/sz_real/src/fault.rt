@@ -24,7 +24,8 @@ pub(crate) fn counted<T>(faults: &mut u64, answer: io::Result<T>) -> Result<T, F
 /// The same for a call that may also want memory, which is no fault.
 pub(crate) fn put_counted(faults: &mut u64, answer: io::Result<()>) -> Result<(), PutFault>
     ensures ok { IsOk result ↔ IsOk answer }
-    ensures memory { IsErrOf result PutFault.OutOfMemory ↔ IsErrAnd answer (λ error. error_kind error ≡ ErrorKind.OutOfMemory) }
+    ensures memory { IsErrOf result PutFault.OutOfMemory
+        ↔ IsErrAnd answer (λ error. error_kind error ≡ ErrorKind.OutOfMemory) }
     ensures cause { HasCause faults.old faults.new (put_failed result) }
 {
     match answer {

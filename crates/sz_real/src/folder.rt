@@ -72,7 +72,8 @@ where
     /// Reads from the file that is open under this path, and opens it where none is.
     fn read_at(&mut self, path: &Text, at: u64, into: &mut [u8]) -> Result<usize, Failed>
         ensures within { IfOk result (λ count. count ≤ length into.old) }
-        ensures given { IfOk result (GivesFromOpen R.File.PositionedFile.held (open_file self.new) path.now at into.new) }
+        ensures given { IfOk result
+            (GivesFromOpen R.File.PositionedFile.held (open_file self.new) path.now at into.new) }
         ensures stays { (bytes : List ℕ) → IsOpen R.File.PositionedFile.held (open_file self.old) path.now bytes
             → IsOpen R.File.PositionedFile.held (open_file self.new) path.now bytes }
         ensures cause { HasCause (folder_faults self.old) (folder_faults self.new) (is_err result) }

@@ -79,7 +79,8 @@ impl<R: net::Net + Clock> Listener for RealListener<'_, R> {
         ensures within { IfOk result (λ count. count ≤ length into.old) }
         ensures received { IfOk result (λ count. ReceivedOver R.Stream.Read.remaining
             (listener_connection self.old) (listener_connection self.new) into.new count) }
-        ensures stands { IsTrue (is_some (listener_connection self.old)) → IsTrue (is_some (listener_connection self.new)) }
+        ensures stands { IsTrue (is_some (listener_connection self.old))
+            → IsTrue (is_some (listener_connection self.new)) }
         ensures cause { HasCause (listener_faults self.old) (listener_faults self.new) (is_err result) }
     {
         let answer = match &mut self.connection {
@@ -94,7 +95,8 @@ impl<R: net::Net + Clock> Listener for RealListener<'_, R> {
             (listener_connection self.old) (listener_connection self.new) bytes.now) }
         ensures refused { OnErr result (SentFrontOver R.Stream.Write.contents
             (listener_connection self.old) (listener_connection self.new) bytes.now) }
-        ensures stands { IsTrue (is_some (listener_connection self.old)) → IsTrue (is_some (listener_connection self.new)) }
+        ensures stands { IsTrue (is_some (listener_connection self.old))
+            → IsTrue (is_some (listener_connection self.new)) }
         ensures cause { HasCause (listener_faults self.old) (listener_faults self.new) (put_failed result) }
     {
         let answer = match &mut self.connection {

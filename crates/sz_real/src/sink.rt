@@ -38,8 +38,10 @@ impl<W: Write> Sink for RealSink<W> {
 
     /// An interrupted write is tried again, and a short one goes on.
     fn write(&mut self, bytes: &[u8]) -> Result<(), PutFault>
-        ensures ok { OnOk result (Appends (W.contents (sink_writer self.old)) (W.contents (sink_writer self.new)) bytes.now) }
-        ensures refused { OnErr result (GrowsByFront (W.contents (sink_writer self.old)) (W.contents (sink_writer self.new)) bytes.now) }
+        ensures ok { OnOk result
+            (Appends (W.contents (sink_writer self.old)) (W.contents (sink_writer self.new)) bytes.now) }
+        ensures refused { OnErr result
+            (GrowsByFront (W.contents (sink_writer self.old)) (W.contents (sink_writer self.new)) bytes.now) }
         ensures cause { HasCause (sink_faults self.old) (sink_faults self.new) (put_failed result) }
     {
         let answer = write_whole(&mut self.writer, bytes);

@@ -24,17 +24,18 @@ pub(crate) const NEW_VERSION: u8 = 2;
 // the version whose moments have no nonces
 const OLD_VERSION: u8 = 1;
 
-const MOST_SERIAL_BYTES: u16 = 64;
+// the limits of an identity, each of the width of its field
+const MOST_SERIAL_BYTES: u16 = sz_base::MOST_SERIAL_BYTES as u16;
 
-const MOST_OS_BYTES: u16 = 256;
+const MOST_OS_BYTES: u16 = sz_base::MOST_OS_BYTES as u16;
 
-const MOST_ANCHORS: u8 = 8;
+const MOST_ANCHORS: u8 = sz_base::MOST_ANCHORS as u8;
 
-const MOST_ANCHOR_BYTES: u32 = 65_536;
+const MOST_ANCHOR_BYTES: u32 = sz_base::MOST_ANCHOR_BYTES as u32;
 
 /// Reads the stored form of a device of version 1 or 2, where each image area has `space` bytes. `BadRecord` tells the
 /// first wrong byte: a byte that no device of these versions has there, the first byte of a field that is out of its
-/// form or its bounds, the first byte behind the form, or the end where the payload ends too early. TakesField memory for
+/// form or its bounds, the first byte behind the form, or the end where the payload ends too early. Takes memory for
 /// the fields alone, each once its bytes are there.
 pub fn read(alloc: Global, space: u64, payload: &[u8]) -> Result<Device, RecordFault>
     ensures ok { IfOk result (IsStored space payload.now) }

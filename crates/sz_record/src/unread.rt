@@ -33,7 +33,7 @@ pub(crate) struct Unread<'a> {
 }
 
 impl<'a> Unread<'a> {
-    /// TakesField so many bytes.
+    /// Takes so many bytes.
     pub fn take(&mut self, count: usize) -> Result<&'a [u8], Wrong>
         ensures taken { IfOk result (λ read. TakesField (bytes count) read.now self.old.left.now self.new.left.now) }
         ensures count { IfOk result (λ read. length read.now ≡ count) }
@@ -48,7 +48,7 @@ impl<'a> Unread<'a> {
         }
     }
 
-    /// TakesField so many bytes.
+    /// Takes so many bytes.
     pub fn array<const N: usize>(&mut self) -> Result<[u8; N], Wrong>
         ensures taken { IfOk result (λ read. TakesField (bytes N) read self.old.left.now self.new.left.now) }
         ensures count { IfOk result (λ read. length read ≡ N) }
@@ -63,7 +63,7 @@ impl<'a> Unread<'a> {
         }
     }
 
-    /// TakesField a number of one byte, between these bounds.
+    /// Takes a number of one byte, between these bounds.
     pub fn byte(&mut self, low: u8, most: u8) -> Result<u8, Wrong>
         ensures taken { IfOk result (λ read.
             TakesNumber w8 low most (read ∷ []) read self.old.left.now self.new.left.now) }
@@ -78,7 +78,7 @@ impl<'a> Unread<'a> {
         }
     }
 
-    /// TakesField a number of two bytes, between these bounds.
+    /// Takes a number of two bytes, between these bounds.
     pub fn number16(&mut self, low: u16, most: u16) -> Result<u16, Wrong>
         ensures taken { IfOk result (λ read.
             TakesNumber w16 low most (to_be_bytes w16 read) read self.old.left.now self.new.left.now) }
@@ -93,7 +93,7 @@ impl<'a> Unread<'a> {
         }
     }
 
-    /// TakesField a number of four bytes, of at most this.
+    /// Takes a number of four bytes, of at most this.
     pub fn number32(&mut self, most: u32) -> Result<u32, Wrong>
         ensures taken { IfOk result (λ read.
             TakesNumber w32 0 most (to_be_bytes w32 read) read self.old.left.now self.new.left.now) }
@@ -108,7 +108,7 @@ impl<'a> Unread<'a> {
         }
     }
 
-    /// TakesField a number of eight bytes, of at most this.
+    /// Takes a number of eight bytes, of at most this.
     pub fn number64(&mut self, most: u64) -> Result<u64, Wrong>
         ensures taken { IfOk result (λ read.
             TakesNumber w64 0 most (to_be_bytes w64 read) read self.old.left.now self.new.left.now) }
@@ -123,7 +123,7 @@ impl<'a> Unread<'a> {
         }
     }
 
-    /// TakesField bytes behind their number in two bytes.
+    /// Takes bytes behind their number in two bytes.
     pub fn text(&mut self, low: u16, most: u16) -> Result<&'a [u8], Wrong>
         ensures taken { IfOk result (λ read.
             TakesField (text low most) (text_bytes read.now) self.old.left.now self.new.left.now) }
@@ -135,7 +135,7 @@ impl<'a> Unread<'a> {
         self.take(size as usize)
     }
 
-    /// TakesField bytes behind their number in four bytes.
+    /// Takes bytes behind their number in four bytes.
     pub fn long(&mut self, most: u32) -> Result<&'a [u8], Wrong>
         ensures taken { IfOk result (λ read.
             TakesField (long most) (long_bytes read.now) self.old.left.now self.new.left.now) }

@@ -1,5 +1,5 @@
-//! What the types of a device's parts say of them, where the definitions speak of plain numbers and lists: each function
-//! reads the values and changes nothing.
+//! What the types of a device's parts say of them, where the definitions speak of plain numbers and lists: each
+//! function reads the values and changes nothing.
 
 ghost use Rattle.std.specs.Prelude.{◌≡◌, length};
 ghost use Rattle.sz_record.specs.Stored.{HasImageWidths, HasMomentWidths, HasWidths};

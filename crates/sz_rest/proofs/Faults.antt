@@ -10,7 +10,7 @@ use Rattle.sz_json.specs.declared.name.Name.{Name}
 use Rattle.sz_rest.specs.Fault.{of_json}
 use Rattle.sz_rest.specs.Reply.{Fits, IsFault, member_fault, size_fault, size_fault_where}
 use Rattle.sz_rest.specs.declared.fault.RestFault.{RestFault}
-use Rattle.sz_rest.specs.declared.fault.TheConstants.{MOST_ARTIFACT_BYTES}
+use Rattle.sz_base.specs.Evidence.{most_artifact_bytes}
 
 -- a fault of the first is that of the two
 pub first_fault : (first later : Option RestFault) (fault : RestFault) → IsFault first fault → IsFault (option_or first later) fault
@@ -37,13 +37,13 @@ neither (Some fault) later h = cc
 
 -- an artifact has no fault of its size exactly where it fits
 pub fitting : (artifact : List ℕ) → size_fault artifact ≡ None → Fits artifact
-fitting artifact h = elim (cases_Bool (nat_le (length artifact) MOST_ARTIFACT_BYTES)) [
-  | inl most ↦ leb-true (length artifact) MOST_ARTIFACT_BYTES most
+fitting artifact h = elim (cases_Bool (nat_le (length artifact) most_artifact_bytes)) [
+  | inl most ↦ leb-true (length artifact) most_artifact_bytes most
   | inr over ↦ cc (rw over at h)
 ]
 
 pub size_fault_none : (artifact : List ℕ) → Fits artifact → size_fault artifact ≡ None
-size_fault_none artifact h = rw (le-leb (length artifact) MOST_ARTIFACT_BYTES h)
+size_fault_none artifact h = rw (le-leb (length artifact) most_artifact_bytes h)
 
 pub fitting_where : (artifact : Option (List ℕ)) → size_fault_where artifact ≡ None → IfSome artifact Fits
 fitting_where None h = tt

@@ -9,7 +9,7 @@ use Rattle.httparse.proofs.TrimLemmas.{AllPass-reverse, trim_ows_space}
 use Rattle.httparse.specs.Ascii.{crlf_bytes, space}
 use Rattle.httparse.specs.Grammar.{AllPass, crlf, Field, is_ows, is_value_byte, IsField, IsToken, print_field, skip_ows}
 use Rattle.httparse.specs.Spans.{name_and_value}
-use Rattle.sz_body.specs.Framing.{content_length, FieldList}
+use Rattle.sz_http.specs.Framing.{content_length, FieldList}
 use Rattle.sz_rest.specs.Message.{field_line, lines_text, message_text}
 
 -- a byte that is seen: no control byte and no blank

@@ -9,12 +9,12 @@ use Rattle.httparse.specs.Ascii.{crlf_bytes}
 use Rattle.httparse.specs.Grammar.{AllPass, crlf, is_uri_byte, is_value_byte, IsToken, print_field, print_request, print_response, ReadsRequest, ReadsResponse, RequestHead, ResponseHead}
 use Rattle.http.specs.StatusCode.{code_digits}
 use Rattle.sz_base.proofs.Numerals.{IsDecimal-decimal}
-use Rattle.sz_head.specs.Head.{IsHead, most_bytes}
-use Rattle.sz_head.specs.Parts.{HasParts, Parts}
-use Rattle.sz_head.specs.declared.kind.Kind.{Kind}
-use Rattle.sz_head.specs.declared.kind.Kind.TheVariants.{Request, Reply}
-use Rattle.sz_body.specs.Framing.{content_encoding, content_length, EachIs, FieldList, Frames, IsLength, IsSameText, transfer_encoding, values}
-use Rattle.sz_body.specs.declared.framing.Framing.TheVariants.{Length}
+use Rattle.sz_http.specs.Head.{IsHead, most_bytes}
+use Rattle.sz_http.specs.Parts.{HasParts, Parts}
+use Rattle.sz_http.specs.declared.kind.Kind.{Kind}
+use Rattle.sz_http.specs.declared.kind.Kind.TheVariants.{Request, Reply}
+use Rattle.sz_http.specs.Framing.{content_encoding, content_length, EachIs, FieldList, Frames, IsLength, IsSameText, transfer_encoding, values}
+use Rattle.sz_http.specs.declared.framing.Framing.TheVariants.{Length}
 use Rattle.sz_rest.proofs.Fields.{are_fields, ArePlainFields, length-lines, lines_length, parts_written, printed, written_field}
 use Rattle.sz_rest.specs.Message.{field_line, head_text, IsMessage, lines_text, message_text, start_line, version, with_length}
 

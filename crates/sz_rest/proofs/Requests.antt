@@ -15,7 +15,7 @@ use Rattle.sz_base.specs.Host.{IsHost, is_ipv6_byte, is_name_byte}
 use Rattle.sz_base.specs.Serial.{IsSerial, is_serial_byte}
 use Rattle.sz_base.specs.Target.{target_text}
 use Rattle.sz_base.specs.declared.target.Target.{Target}
-use Rattle.sz_body.specs.Framing.{content_length}
+use Rattle.sz_http.specs.Framing.{content_length}
 use Rattle.sz_json.specs.Bounded.{IsBoundedJson}
 use Rattle.sz_rest.proofs.Fields.{ArePlainFields, is_visible, IsPlainField}
 use Rattle.sz_rest.proofs.Messages.{IsRequestStart, request_is_message, request_parts, Suits}

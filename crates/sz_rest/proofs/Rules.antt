@@ -1,7 +1,7 @@
 -- Where a rule of the server is the first that applies.
 use Rattle.std.proofs.Common.{◌≡◌, ◌↔◌, ℕ, List, Bool, false, Option, Some, IsTrue, MatchOption, refl, sym, subst, inl, inr}
 use Rattle.std.proofs.lemmas.Bool.{iff_false}
-use Rattle.sz_head.specs.Parts.{Parts}
+use Rattle.sz_http.specs.Parts.{Parts}
 use Rattle.sz_rest.specs.Asked.{HasMethod, IsAskFault, IsForOperation, IsInput, IsRefused, NamesADevice, NamesDevice}
 use Rattle.sz_rest.specs.Request.{post}
 use Rattle.sz_rest.specs.ReplyText.{IsRefusal}

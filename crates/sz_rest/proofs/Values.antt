@@ -1,7 +1,7 @@
 -- The one value of a name, field by field.
 use Rattle.std.proofs.Common.{◌≡◌, ℕ, ◌+◌, ◌<◌, List, [], ◌∷◌, ◌++◌, length, get_or, take, drop, sym, ap, ◌∙◌, arith, length-append, Option, Some, None, IfSome, IfNone, IsSome, option_to_list, option_copied, Bor}
-use Rattle.sz_body.specs.Framing.{FieldList, value_if, values}
-use Rattle.sz_body.proofs.Values.{values_all, values_at, values_more}
+use Rattle.sz_http.specs.Framing.{FieldList, value_if, values}
+use Rattle.sz_http.proofs.Values.{values_all, values_at, values_more}
 
 -- what was found, with what one more field adds
 pub one_more : (name : List ℕ) (fields : FieldList) (i : ℕ) (found value one : Option (List ℕ)) → i < length fields

@@ -6,9 +6,9 @@ use Rattle.sz_base.specs.Serial.{IsSerial}
 use Rattle.sz_json.specs.Bounded.{IsBoundedJson}
 use Rattle.sz_json.specs.Name.{name_text}
 use Rattle.sz_json.specs.declared.name.Name.TheVariants as name
-use Rattle.sz_head.specs.Parts.{Parts}
-use Rattle.sz_head.specs.declared.kind.Kind.TheVariants as kind
-use Rattle.sz_body.specs.Framing.{values}
+use Rattle.sz_http.specs.Parts.{Parts}
+use Rattle.sz_http.specs.declared.kind.Kind.TheVariants as kind
+use Rattle.sz_http.specs.Framing.{values}
 use Rattle.sz_rest.specs.Message.{IsMessage}
 use Rattle.sz_rest.specs.Request.{operation_path, post, serial_field}
 use Rattle.sz_rest.specs.declared.asked.Asked.{Asked}

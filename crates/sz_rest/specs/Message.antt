@@ -3,11 +3,11 @@ use Rattle.std.specs.Prelude.{◌≡◌, ℕ, ◌^◌, ◌<◌, ◌≤◌, List,
 use Rattle.std.specs.Fmt.{decimal}
 use Rattle.std.specs.List.{flat_map}
 use Rattle.httparse.specs.Ascii.{colon, crlf_bytes, space}
-use Rattle.sz_head.specs.Head.{IsHead}
-use Rattle.sz_head.specs.Parts.{HasParts, Parts}
-use Rattle.sz_head.specs.declared.kind.Kind.{Kind}
-use Rattle.sz_body.specs.Framing.{content_length, FieldList, Frames}
-use Rattle.sz_body.specs.declared.framing.Framing.TheVariants.{Length}
+use Rattle.sz_http.specs.Head.{IsHead}
+use Rattle.sz_http.specs.Parts.{HasParts, Parts}
+use Rattle.sz_http.specs.declared.kind.Kind.{Kind}
+use Rattle.sz_http.specs.Framing.{content_length, FieldList, Frames}
+use Rattle.sz_http.specs.declared.framing.Framing.TheVariants.{Length}
 
 -- the version that is written
 abbrev pub version : List ℕ

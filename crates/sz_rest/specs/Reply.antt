@@ -10,7 +10,7 @@ use Rattle.sz_json.specs.declared.name.Name.{Name}
 use Rattle.sz_json.specs.declared.name.Name.TheVariants as name
 use Rattle.sz_rest.specs.declared.fault.RestFault.{RestFault}
 use Rattle.sz_rest.specs.declared.fault.RestFault.TheVariants.{Status, Member, TooLarge, OutOfMemory}
-use Rattle.sz_rest.specs.declared.fault.TheConstants.{MOST_ARTIFACT_BYTES}
+use Rattle.sz_base.specs.Evidence.{most_artifact_bytes}
 
 -- the output has these artifacts
 pub record HasArtifacts (output : Data) (evidence : Evidence) : Type 0 where
@@ -25,7 +25,7 @@ pub record RepliesWith (value : Data) (evidence : Evidence) : Type 0 where
   pub artifacts : HasArtifacts output evidence
 
 abbrev pub Fits : List ℕ → Type 0
-Fits artifact = length artifact ≤ MOST_ARTIFACT_BYTES
+Fits artifact = length artifact ≤ most_artifact_bytes
 
 -- no artifact is over the limit
 pub record FitsLimits (evidence : Evidence) : Type 0 where
@@ -50,7 +50,7 @@ member_fault (Err name) inside = Some (Member name)
 
 abbrev pub size_fault : List ℕ → Option RestFault
 size_fault artifact =
-    if nat_le (length artifact) MOST_ARTIFACT_BYTES then None else Some (TooLarge MOST_ARTIFACT_BYTES)
+    if nat_le (length artifact) most_artifact_bytes then None else Some (TooLarge most_artifact_bytes)
 
 abbrev pub size_fault_where : Option (List ℕ) → Option RestFault
 size_fault_where None = None

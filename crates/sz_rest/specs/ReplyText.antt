@@ -9,8 +9,8 @@ use Rattle.sz_base.specs.declared.evidence.Evidence.{Evidence}
 use Rattle.sz_json.specs.Object.{binary_value, members_of}
 use Rattle.sz_json.specs.declared.name.Name.{Name}
 use Rattle.sz_json.specs.declared.name.Name.TheVariants as name
-use Rattle.sz_head.specs.Parts.{Parts}
-use Rattle.sz_head.specs.declared.kind.Kind.TheVariants as kind
+use Rattle.sz_http.specs.Parts.{Parts}
+use Rattle.sz_http.specs.declared.kind.Kind.TheVariants as kind
 use Rattle.sz_rest.specs.Message.{IsMessage, message_text, start_line, version, yang_json}
 use Rattle.sz_rest.specs.Reply.{ReplyOf}
 

@@ -9,7 +9,7 @@ use Rattle.sz_base.specs.declared.target.Target.{Target}
 use Rattle.sz_json.specs.Object.{binary_value, members_of}
 use Rattle.sz_json.specs.declared.name.Name.{Name}
 use Rattle.sz_json.specs.declared.name.Name.TheVariants as name
-use Rattle.sz_body.specs.Framing.{FieldList}
+use Rattle.sz_http.specs.Framing.{FieldList}
 use Rattle.sz_rest.specs.Message.{message_text, start_line, version, yang_json}
 
 abbrev pub post : List ℕ

@@ -3,8 +3,8 @@
 ghost use Rattle.std.specs.Prelude.{◌≡◌, ◌≢◌, ◌↔◌, ◌<◌, ◌∷◌, ◌++◌, [], ℕ, List, IsTrue, length, slice_index_or, IfOk, IfErr, IfSome, IfNone, IsSome, MatchOption, OnErr};
 ghost use Rattle.std.specs.Option.{option_copied, option_to_list};
 ghost use Rattle.sz_base.specs.Serial.{IsSerial};
-ghost use Rattle.sz_head.specs.Parts.{fields_of, parts_of};
-ghost use Rattle.sz_body.specs.Framing.{value_if, values};
+ghost use Rattle.sz_http.specs.Parts.{fields_of, parts_of};
+ghost use Rattle.sz_http.specs.Framing.{value_if, values};
 ghost use Rattle.sz_rest.specs.Asked.{Asks, AsksForImage, AsksToBootstrap, HasMethod, IsAnImagePath, IsAskFault, IsForOperation, IsImagePath, IsInput, NamesADevice, NamesDevice};
 ghost use Rattle.sz_rest.specs.Request.{post};
 
@@ -13,7 +13,7 @@ use crate::request::{OPERATION_PATH, SERIAL_FIELD};
 use http::{Method, StatusCode};
 use std::alloc::Global;
 use sz_base::{BaseFault, OutOfMemory, Serial, Text};
-use sz_head::{Fields, Head};
+use sz_http::{Fields, Head};
 use sz_json::{JsonFault, Name};
 
 const IMAGES_PATH: &[u8] = b"/images/";
@@ -29,8 +29,8 @@ pub enum Asked {
 
 /// Reads a request by its head and its body. `Refused` exactly with the status of the first rule that applies: on the
 /// operation's path 405 for another method than POST, 400 where not exactly one field names the device by a serial
-/// number, 400 for a body that is neither empty nor bounded JSON with the operation's input; on an image's path 405 for another
-/// method than GET; 404 on any other path.
+/// number, 400 for a body that is neither empty nor bounded JSON with the operation's input; on an image's path 405 for
+/// another method than GET; 404 on any other path.
 pub fn read_request(alloc: Global, head: &Head<'_>, body: &[u8]) -> Result<Asked, AskFault>
     ensures ok { IfOk result (Asks (parts_of head.now) body.now) }
     ensures refused { IfErr result (IsAskFault (parts_of head.now) body.now) }

@@ -6,15 +6,15 @@ ghost use Rattle.sz_json.specs.Form.{binary_of};
 ghost use Rattle.sz_json.specs.Member.{optional, required};
 ghost use Rattle.sz_rest.specs.Reply.{Fits, FitsLimits, HasArtifacts, IsBodyAnswer, IsFault, IsReplyFault, member_fault, output_fault, ReplyOf, RepliesWith, reply_fault, size_fault, size_fault_where};
 
-use crate::{MOST_ARTIFACT_BYTES, RestFault};
+use crate::RestFault;
 use http::StatusCode;
 use std::alloc::Global;
-use sz_base::{Bytes, Evidence};
+use sz_base::{Bytes, Evidence, MOST_ARTIFACT_BYTES};
 use sz_json::{Name, Value, binary, required_binary, required_object};
 
 /// Reads a reply of this status with this body. `Status` exactly where it is not 200; else the first fault of the body:
-/// `Member` of a member that is missing or of the wrong form, with the name `Json` where the body is no bounded JSON, and
-/// `TooLarge` of an artifact with more than `MOST_ARTIFACT_BYTES` bytes.
+/// `Member` of a member that is missing or of the wrong form, with the name `Json` where the body is no bounded JSON,
+/// and `TooLarge` of an artifact with more than `MOST_ARTIFACT_BYTES` bytes.
 pub fn read_reply(alloc: Global, status: u16, body: &[u8]) -> Result<Evidence, RestFault>
     ensures ok { IfOk result (λ evidence. (status ≡ 200) × ReplyOf body.now evidence) }
     ensures fits { IfOk result FitsLimits }

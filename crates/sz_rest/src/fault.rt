@@ -7,9 +7,6 @@ ghost use Rattle.sz_rest.specs.declared.fault.RestFault.TheVariants.{OutOfMemory
 use sz_base::OutOfMemory;
 use sz_json::{JsonFault, Name};
 
-/// How many bytes an artifact of a reply may have.
-pub const MOST_ARTIFACT_BYTES: u64 = 1_048_576;
-
 /// Why a reply gives no evidence.
 #[derive(Clone, Copy, Debug, PartialEq, Eq)]
 pub enum RestFault {

@@ -3,7 +3,7 @@
 ghost use Rattle.std.specs.Prelude.{◌≡◌, ◌↔◌, ◌⊎◌, List, ℕ, None, Ok, Err, Result, IfOk, IfErr};
 ghost use Rattle.serde_json.specs.Data.{Data};
 ghost use Rattle.sz_base.specs.declared.evidence.Evidence.{Evidence};
-ghost use Rattle.sz_head.specs.Parts.{Parts};
+ghost use Rattle.sz_http.specs.Parts.{Parts};
 ghost use Rattle.sz_rest.specs.Asked.{Asks, IsRefused};
 ghost use Rattle.sz_rest.specs.Reply.{FitsLimits, IsReplyFault, ReplyOf, RepliesWith, reply_fault};
 ghost use Rattle.sz_rest.specs.ReplyText.{IsRefusal};

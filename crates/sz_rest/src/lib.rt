@@ -12,7 +12,7 @@ mod request;
 
 pub use asked::{Asked, read_request};
 pub use evidence::read_reply;
-pub use fault::{AskFault, MOST_ARTIFACT_BYTES, RestFault};
+pub use fault::{AskFault, RestFault};
 pub use laws::{faultless_values_are_replies, replies_read_back, requests_have_one_answer};
 pub use reply::{write_refusal, write_reply};
 pub use request::write_request;

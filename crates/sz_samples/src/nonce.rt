@@ -1,5 +1,5 @@
-//! The evidence of the device `A1` whose voucher has the nonce 00 01 .. 0F (RFC 8366 section 5.3). The device trusts the
-//! anchor of the evidence without a nonce.
+//! The evidence of the device `A1` whose voucher has the nonce 00 01 .. 0F (RFC 8366 section 5.3). The device trusts
+//! the anchor of the evidence without a nonce.
 
 /// The conveyed information.
 pub const NONCE_INFORMATION: &str = "\

@@ -120,8 +120,8 @@ fn read_stored<D: Disk>(alloc: Global, ready: &Ready, disk: &mut D) -> Result<St
 
 impl Signer {
     /// Makes a key of these levels on a disk that is not in use, of 48 bytes that are drawn at once: SEED, then I. It
-    /// draws first, then tests the size of the disk, then builds the top tree, and then writes. Nothing is written unless
-    /// both gates read closed, whatever it answers.
+    /// draws first, then tests the size of the disk, then builds the top tree, and then writes. Nothing is written
+    /// unless both gates read closed, whatever it answers.
     pub fn create<R: Threads + Sync, G: Gate + Sync, D: Disk, E: Entropy>(
         rt: &R,
         gate: &G,

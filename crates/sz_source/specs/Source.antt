@@ -8,6 +8,10 @@ use Rattle.sz_source.specs.declared.item.Item.TheVariants.{Folder, File, At}
 use Rattle.sz_source.specs.declared.source.Source.{Source}
 use Rattle.sz_source.specs.declared.source.Source.TheVariants.{Usb, Dhcp4, Dhcp6, Dns, Server}
 
+-- how many sources a device may be given
+abbrev pub most_sources : ℕ
+most_sources = 16
+
 -- any bytes, at least one
 abbrev pub IsPath : List ℕ → Type 0
 IsPath path = 1 ≤ length path

@@ -32,8 +32,8 @@ pub type Sources = Items<Source>;
 
 impl Source {
     /// Reads a source: `usb:PATH`, `dhcp4:PATH`, `dhcp6:PATH`, `dns:PATH:DOMAIN` or `server:HOST:PORT`. A path is any
-    /// bytes, at least one; a domain is any bytes but colons, at least one and no point at its end. `Form` exactly where
-    /// the text is none.
+    /// bytes, at least one; a domain is any bytes but colons, at least one and no point at its end. `Form` exactly
+    /// where the text is none.
     pub fn read(alloc: Global, word: &[u8]) -> Result<Self, BaseFault>
         ensures reads { ReadsValue (λ source. IsSource source word.now) result }
     {

@@ -20,7 +20,7 @@ use Rattle.sz_record.proofs.Parts.{stored_is_storable}
 use Rattle.sz_state.specs.Change.{CanInstall, CanOnboard, IsChanged, NamesImage, NowHasImage, StandsThrough}
 use Rattle.sz_state.specs.Held.{IsHeld}
 use Rattle.sz_state.specs.Layout.{HasLayout, area_place, capacity_of, cell_place, space_of}
-use Rattle.sz_state.specs.Ran.{NowStands, NowStandsAnew, RecordReplaced}
+use Rattle.sz_state.specs.Ran.{NowStands, RecordReplaced}
 use Rattle.sz_state.specs.Stands.{HasImage, Stands, StandsAnew}
 use Rattle.sz_state.specs.Step.{installed_as, installed_by, once_installed, once_onboarded, other_area, staged_image, with_image}
 use Rattle.sz_state.specs.declared.staged.Staged.{Staged}

@@ -7,7 +7,7 @@ use Rattle.sz_visit.specs.Files.{artifact_of, Gives, under}
 use Rattle.sz_visit.specs.Storage.{conveyed_information, evidence_in, evidence_of, fits, fits_where, owner_certificate, ownership_voucher}
 use Rattle.sz_visit.specs.declared.fault.FileFault.{FileFault}
 use Rattle.sz_visit.specs.declared.fault.FileFault.TheVariants.{Lost, Absent, TooLarge, OutOfMemory}
-use Rattle.sz_visit.specs.declared.storage.TheConstants.{MOST_ARTIFACT_BYTES}
+use Rattle.sz_base.specs.Evidence.{most_artifact_bytes}
 
 abbrev pub found : Option (List ℕ) → Result (Option (List ℕ)) FileFault
 found artifact = Ok artifact
@@ -29,25 +29,25 @@ is_found None artifact e =
     (sym same, rw same refl)
 is_found (Some bytes) artifact e = elim (cases_Bool (fits bytes)) [
   | inl fit ↦
-      let e2 = e ∙ cond-true (fits bytes) (found (Some bytes)) (refused (TooLarge MOST_ARTIFACT_BYTES)) fit in
+      let e2 = e ∙ cond-true (fits bytes) (found (Some bytes)) (refused (TooLarge most_artifact_bytes)) fit in
       let same : artifact ≡ Some bytes = cc in
       (sym same, rw same fit)
   | inr over ↦
-      let e2 = e ∙ cond-false (fits bytes) (found (Some bytes)) (refused (TooLarge MOST_ARTIFACT_BYTES)) over in
+      let e2 = e ∙ cond-false (fits bytes) (found (Some bytes)) (refused (TooLarge most_artifact_bytes)) over in
       absurd (cc)
 ]
 
 -- a refused artifact is over the limit
 is_refused : (file : Option (List ℕ)) (fault : FileFault) → refused fault ≡ artifact_of file
-    → (fault ≡ TooLarge MOST_ARTIFACT_BYTES) × (fits_where file ≡ false)
+    → (fault ≡ TooLarge most_artifact_bytes) × (fits_where file ≡ false)
 is_refused None fault e = absurd (cc)
 is_refused (Some bytes) fault e = elim (cases_Bool (fits bytes)) [
   | inl fit ↦
-      let e2 = e ∙ cond-true (fits bytes) (found (Some bytes)) (refused (TooLarge MOST_ARTIFACT_BYTES)) fit in
+      let e2 = e ∙ cond-true (fits bytes) (found (Some bytes)) (refused (TooLarge most_artifact_bytes)) fit in
       absurd (cc)
   | inr over ↦
-      let e2 = e ∙ cond-false (fits bytes) (found (Some bytes)) (refused (TooLarge MOST_ARTIFACT_BYTES)) over in
-      let same : fault ≡ TooLarge MOST_ARTIFACT_BYTES = cc in
+      let e2 = e ∙ cond-false (fits bytes) (found (Some bytes)) (refused (TooLarge most_artifact_bytes)) over in
+      let same : fault ≡ TooLarge most_artifact_bytes = cc in
       (same, over)
 ]
 
@@ -57,11 +57,11 @@ three_fit : (a b c : Option (List ℕ)) (ci : List ℕ) (oc ov : Option (List �
 three_fit a b c ci oc ov ea eb ec fa fb fc = rw (ea, eb, ec, fa, fb, fc) refl
 
 second_is_over : (a b c : Option (List ℕ)) (ci : List ℕ) → a ≡ Some ci → fits ci ≡ true → fits_where b ≡ false
-    → no_evidence (TooLarge MOST_ARTIFACT_BYTES) ≡ evidence_of a b c
+    → no_evidence (TooLarge most_artifact_bytes) ≡ evidence_of a b c
 second_is_over a b c ci ea fa fb = rw (ea, fa, fb) refl
 
 third_is_over : (a b c : Option (List ℕ)) (ci : List ℕ) (oc : Option (List ℕ)) → a ≡ Some ci → b ≡ oc → fits ci ≡ true
-    → fits_where oc ≡ true → fits_where c ≡ false → no_evidence (TooLarge MOST_ARTIFACT_BYTES) ≡ evidence_of a b c
+    → fits_where oc ≡ true → fits_where c ≡ false → no_evidence (TooLarge most_artifact_bytes) ≡ evidence_of a b c
 third_is_over a b c ci oc ea eb fa fb fc = rw (ea, eb, fa, fb, fc) refl
 
 abbrev ci_at : FileMap → List ℕ → Option (List ℕ)

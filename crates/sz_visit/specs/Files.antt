@@ -3,8 +3,8 @@ use Rattle.std.specs.Prelude.{◌≡◌, ℕ, Bool, true, false, if◌then◌els
 use Rattle.sz_io.specs.Folder.{FileMap}
 use Rattle.sz_visit.specs.declared.fault.FileFault.{FileFault}
 use Rattle.sz_visit.specs.declared.fault.FileFault.TheVariants.{Lost, Absent, TooLarge, OutOfMemory}
-use Rattle.sz_visit.specs.declared.files.TheConstants.{MOST_MESSAGE_BYTES}
-use Rattle.sz_visit.specs.declared.storage.TheConstants.{MOST_ARTIFACT_BYTES}
+use Rattle.sz_visit.specs.Limits.{most_message_bytes}
+use Rattle.sz_base.specs.Evidence.{most_artifact_bytes}
 
 -- the answer is told by the files: the folder didn't fail, and memory didn't run out
 abbrev pub IsTold : {T : Type 0} → Result T FileFault → Type 0
@@ -33,10 +33,10 @@ file_of most None = Ok None
 file_of most (Some bytes) = if nat_le (length bytes) most then Ok (Some bytes) else Err (TooLarge most)
 
 abbrev pub artifact_of : Option (List ℕ) → Result (Option (List ℕ)) FileFault
-artifact_of file = file_of MOST_ARTIFACT_BYTES file
+artifact_of file = file_of most_artifact_bytes file
 
 -- a DHCP or DNS message in a file
 abbrev pub message_of : Option (List ℕ) → Result (List ℕ) FileFault
 message_of None = Err Absent
 message_of (Some bytes) =
-    if nat_le (length bytes) MOST_MESSAGE_BYTES then Ok bytes else Err (TooLarge MOST_MESSAGE_BYTES)
+    if nat_le (length bytes) most_message_bytes then Ok bytes else Err (TooLarge most_message_bytes)

@@ -6,7 +6,7 @@ use Rattle.sz_io.specs.Folder.{bytes_at, FileMap}
 use Rattle.sz_visit.specs.Files.{under}
 use Rattle.sz_visit.specs.declared.fault.FileFault.{FileFault}
 use Rattle.sz_visit.specs.declared.fault.FileFault.TheVariants.{Absent, TooLarge}
-use Rattle.sz_visit.specs.declared.storage.TheConstants.{MOST_ARTIFACT_BYTES}
+use Rattle.sz_base.specs.Evidence.{most_artifact_bytes}
 
 abbrev pub conveyed_information : List ℕ
 conveyed_information = codes "conveyed-information.cms"
@@ -18,7 +18,7 @@ abbrev pub ownership_voucher : List ℕ
 ownership_voucher = codes "ownership-voucher.cms"
 
 abbrev pub fits : List ℕ → Bool
-fits artifact = nat_le (length artifact) MOST_ARTIFACT_BYTES
+fits artifact = nat_le (length artifact) most_artifact_bytes
 
 abbrev pub fits_where : Option (List ℕ) → Bool
 fits_where None = true
@@ -30,7 +30,7 @@ evidence_of None oc ov = Err Absent
 evidence_of (Some ci) oc ov =
     if fits ci && fits_where oc && fits_where ov
     then Ok (record { ci = ci; oc = oc; ov = ov })
-    else Err (TooLarge MOST_ARTIFACT_BYTES)
+    else Err (TooLarge most_artifact_bytes)
 
 -- the evidence in this folder
 abbrev pub evidence_in : FileMap → List ℕ → Result Evidence FileFault

@@ -6,9 +6,8 @@ ghost use Rattle.sz_spec.specs.Cause.{HasCause};
 ghost use Rattle.sz_visit.specs.Files.{artifact_of, blames_folder, file_of, Gives, message_of, under};
 
 use crate::FileFault;
-use crate::storage::MOST_ARTIFACT_BYTES;
 use std::alloc::Global;
-use sz_base::{Bytes, OutOfMemory, Text};
+use sz_base::{Bytes, MOST_ARTIFACT_BYTES, OutOfMemory, Text};
 use sz_io::{Folder, Found, read_whole};
 
 /// How many bytes a file with a DHCP or DNS message may have.

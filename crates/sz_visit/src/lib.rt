@@ -8,4 +8,4 @@ mod storage;
 
 pub use fault::FileFault;
 pub use files::{MOST_MESSAGE_BYTES, read_message};
-pub use storage::{MOST_ARTIFACT_BYTES, read_storage};
+pub use storage::read_storage;

@@ -11,9 +11,6 @@ use std::alloc::Global;
 use sz_base::{Evidence, Serial, Text};
 use sz_io::Folder;
 
-/// How many bytes an artifact may have.
-pub const MOST_ARTIFACT_BYTES: u64 = 1_048_576;
-
 const CONVEYED_INFORMATION: &[u8] = b"conveyed-information.cms";
 
 const OWNER_CERTIFICATE: &[u8] = b"owner-certificate.cms";

@@ -1,6 +1,7 @@
 //! The progress of a walk: what is left to visit, and the visits so far.
 
 ghost use Rattle.std.specs.Prelude.{◌≡◌, ◌+◌, ◌≤◌, [], ◌∷◌, ◌++◌, length, map, reverse, IfOk, OnOk, OnErr};
+ghost use Rattle.sz_source.specs.Source.{most_sources};
 ghost use Rattle.sz_walk.specs.Progress.{Follows, HasRoom, IsSettled, IsTurn, LeadsOn, walked_of};
 ghost use Rattle.sz_walk.specs.Visits.{count_of, entry_at, first_walked, HasOffer, others_than, TurnsDown, visit_of, visits_of};
 
@@ -42,7 +43,7 @@ pub(crate) enum Turn {
 impl Progress {
     /// That of a walk over these sources, before its first visit.
     pub(crate) fn over(alloc: Global, sources: &Sources) -> Result<Self, OutOfMemory>
-        requires few { length sources.now ≤ 16 }
+        requires few { length sources.now ≤ most_sources }
         ensures { IfOk result (λ progress. walked_of progress ≡ first_walked sources.now) }
     {
         let mut left = Vec::new(alloc);

@@ -5,6 +5,7 @@ ghost use Rattle.sz_spec.specs.Cause.{HasCause};
 ghost use Rattle.sz_spec.specs.Told.{WhereTold};
 ghost use Rattle.sz_exchange.specs.Exchange.{MayAdd};
 ghost use Rattle.sz_answer.specs.Visit.{search_of};
+ghost use Rattle.sz_source.specs.Source.{most_sources};
 ghost use Rattle.sz_walk.specs.Visits.{first_walked, HasOffer, TurnsDown, was_lost_file, was_lost_server};
 ghost use Rattle.sz_walk.specs.Walk.{IsReady, IsStep, Notes, notes_some, OffersAuthorised, WhereBothTell};
 
@@ -41,7 +42,7 @@ impl Model for Walk {
 impl Walk {
     /// A walk over these sources, before its first visit.
     pub fn create(alloc: Global, sources: Sources) -> Result<Self, OutOfMemory>
-        requires few { length sources ≤ 16 }
+        requires few { length sources ≤ most_sources }
         ensures made { IfOk result (λ walk. walk ≡ record { sources = sources; walked = first_walked sources }) }
         ensures no_offer { IfOk result (λ walk. ¬ HasOffer walk.walked) }
     {

@@ -8,7 +8,7 @@ use Rattle.sz_der.proofs.Octets.{same_bytes}
 use Rattle.sz_x509.specs.CertFault.{flag_at, identifier_at, path_length_spot, stands_among, value_spot}
 use Rattle.sz_x509.specs.CertPlaces.{Adds, ca_at, has_identifier, key_id_at, path_len_at, path_length_at, RestrictedAt, UsageAt, value_among}
 use Rattle.sz_x509.specs.Extensions.{Restrictions}
-use Rattle.sz_x509.specs.declared.identifier.TheConstants.{BASIC_CONSTRAINTS, KEY_USAGE, SUBJECT_KEY_IDENTIFIER}
+use Rattle.sz_x509.specs.Identifiers.{basic_constraints_oid, key_usage_oid, subject_key_identifier_oid}
 
 -- ---- by the identifier
 
@@ -17,27 +17,27 @@ pub compared : (identifier other given : List ℕ) → given ≡ other → bytes
 compared identifier other given same = rw same refl
 
 module _ (identifier : List ℕ) (value : Spot) (old : Restrictions) where
-  pub adds_basic_constraints : (ca : Bool) (path_len : Option ℕ) → bytes_eq identifier BASIC_CONSTRAINTS ≡ true → ca ≡ flag_at (inside value) →
+  pub adds_basic_constraints : (ca : Bool) (path_len : Option ℕ) → bytes_eq identifier basic_constraints_oid ≡ true → ca ≡ flag_at (inside value) →
       path_len ≡ path_length_at (path_length_spot value) →
       Adds identifier value old (record { ca = ca; path_len = path_len; usage = old.usage; key_id = old.key_id })
   adds_basic_constraints ca path_len basic cas paths =
-      let is = same_bytes identifier BASIC_CONSTRAINTS basic in
+      let is = same_bytes identifier basic_constraints_oid basic in
       record { ca = rw is cas; path_len = rw is paths; usage = rw is refl; key_id = rw is refl }
 
-  pub adds_key_usage : (usage : Option ℕ) → bytes_eq identifier KEY_USAGE ≡ true → UsageAt (Some value) usage →
+  pub adds_key_usage : (usage : Option ℕ) → bytes_eq identifier key_usage_oid ≡ true → UsageAt (Some value) usage →
       Adds identifier value old (record { ca = old.ca; path_len = old.path_len; usage = usage; key_id = old.key_id })
   adds_key_usage usage test at =
-      let is = same_bytes identifier KEY_USAGE test in
+      let is = same_bytes identifier key_usage_oid test in
       record { ca = rw is refl; path_len = rw is refl; usage = rw is at; key_id = rw is refl }
 
-  pub adds_key_identifier : (key_id : Option (List ℕ)) → bytes_eq identifier SUBJECT_KEY_IDENTIFIER ≡ true → key_id ≡ Some (content_at value) →
+  pub adds_key_identifier : (key_id : Option (List ℕ)) → bytes_eq identifier subject_key_identifier_oid ≡ true → key_id ≡ Some (content_at value) →
       Adds identifier value old (record { ca = old.ca; path_len = old.path_len; usage = old.usage; key_id = key_id })
   adds_key_identifier key_id test at =
-      let is = same_bytes identifier SUBJECT_KEY_IDENTIFIER test in
+      let is = same_bytes identifier subject_key_identifier_oid test in
       record { ca = rw is refl; path_len = rw is refl; usage = rw is refl; key_id = rw is at }
 
-  pub adds_nothing : bytes_eq identifier BASIC_CONSTRAINTS ≡ false → bytes_eq identifier KEY_USAGE ≡ false →
-      bytes_eq identifier SUBJECT_KEY_IDENTIFIER ≡ false → Adds identifier value old old
+  pub adds_nothing : bytes_eq identifier basic_constraints_oid ≡ false → bytes_eq identifier key_usage_oid ≡ false →
+      bytes_eq identifier subject_key_identifier_oid ≡ false → Adds identifier value old old
   adds_nothing basic usage key_id =
       record { ca = rw basic refl; path_len = rw basic refl; usage = rw usage refl; key_id = rw key_id refl }
 
@@ -91,31 +91,31 @@ new_as identifier other spots new is = rw (← same_bytes identifier other is) n
 pub restricted_more : (spots : List Spot) (spot : Spot) (old new : Restrictions) → stands_among spots (identifier_at spot) ≡ false →
     RestrictedAt spots old → Adds (identifier_at spot) (inside (value_spot spot)) old new → RestrictedAt (spots ++ spot ∷ []) new
 restricted_more spots spot old new first at adds = record {
-  ca = elim (cases_Bool (bytes_eq (identifier_at spot) BASIC_CONSTRAINTS)) [
+  ca = elim (cases_Bool (bytes_eq (identifier_at spot) basic_constraints_oid)) [
     | inl is ↦
-        let value = value_last BASIC_CONSTRAINTS spots spot (new_as (identifier_at spot) BASIC_CONSTRAINTS spots first is) is in
+        let value = value_last basic_constraints_oid spots spot (new_as (identifier_at spot) basic_constraints_oid spots first is) is in
         (rw is at adds.ca) ∙ ap ca_at (sym value)
-    | inr other ↦ (rw other at adds.ca) ∙ at.ca ∙ ap ca_at (sym (value_before BASIC_CONSTRAINTS spots spot other))
+    | inr other ↦ (rw other at adds.ca) ∙ at.ca ∙ ap ca_at (sym (value_before basic_constraints_oid spots spot other))
   ];
-  path_len = elim (cases_Bool (bytes_eq (identifier_at spot) BASIC_CONSTRAINTS)) [
+  path_len = elim (cases_Bool (bytes_eq (identifier_at spot) basic_constraints_oid)) [
     | inl is ↦
-        let value = value_last BASIC_CONSTRAINTS spots spot (new_as (identifier_at spot) BASIC_CONSTRAINTS spots first is) is in
+        let value = value_last basic_constraints_oid spots spot (new_as (identifier_at spot) basic_constraints_oid spots first is) is in
         (rw is at adds.path_len) ∙ ap path_len_at (sym value)
-    | inr other ↦ (rw other at adds.path_len) ∙ at.path_len ∙ ap path_len_at (sym (value_before BASIC_CONSTRAINTS spots spot other))
+    | inr other ↦ (rw other at adds.path_len) ∙ at.path_len ∙ ap path_len_at (sym (value_before basic_constraints_oid spots spot other))
   ];
-  usage = elim (cases_Bool (bytes_eq (identifier_at spot) KEY_USAGE)) [
+  usage = elim (cases_Bool (bytes_eq (identifier_at spot) key_usage_oid)) [
     | inl is ↦
-        let value = value_last KEY_USAGE spots spot (new_as (identifier_at spot) KEY_USAGE spots first is) is in
+        let value = value_last key_usage_oid spots spot (new_as (identifier_at spot) key_usage_oid spots first is) is in
         rw value (rw is at adds.usage)
     | inr other ↦
         let same = rw other at adds.usage in
-        rw (value_before KEY_USAGE spots spot other, same) at.usage
+        rw (value_before key_usage_oid spots spot other, same) at.usage
   ];
-  key_id = elim (cases_Bool (bytes_eq (identifier_at spot) SUBJECT_KEY_IDENTIFIER)) [
+  key_id = elim (cases_Bool (bytes_eq (identifier_at spot) subject_key_identifier_oid)) [
     | inl is ↦
-        let value = value_last SUBJECT_KEY_IDENTIFIER spots spot (new_as (identifier_at spot) SUBJECT_KEY_IDENTIFIER spots first is) is in
+        let value = value_last subject_key_identifier_oid spots spot (new_as (identifier_at spot) subject_key_identifier_oid spots first is) is in
         (rw is at adds.key_id) ∙ ap key_id_at (sym value)
-    | inr other ↦ (rw other at adds.key_id) ∙ at.key_id ∙ ap key_id_at (sym (value_before SUBJECT_KEY_IDENTIFIER spots spot other))
+    | inr other ↦ (rw other at adds.key_id) ∙ at.key_id ∙ ap key_id_at (sym (value_before subject_key_identifier_oid spots spot other))
   ];
 }
 

@@ -4,7 +4,7 @@ use Rattle.std.specs.Prelude.{IfErr, IfOk, IsOkAnd, OnOk}
 use Rattle.std.proofs.Common.{◌≡◌, ℕ, inl, inr, List, [], ◌++◌, Some, None, Result, Ok, Err, refl, sym, ap, subst, ◌∙◌, arith}
 use Rattle.sz_der.specs.Der.{AreOctets, Der}
 use Rattle.sz_der.specs.Spots.{after, after_optional, at, content_at, front, inside, Spot, whole_at}
-use Rattle.sz_der.specs.declared.tag.TheConstants.{CONTEXT_CONSTRUCTED, GENERALIZED_TIME, INTEGER, SEQUENCE, UTC_TIME}
+use Rattle.sz_der.specs.Tags.{context_constructed, generalized_time_tag, integer_tag, sequence_tag, utc_time_tag}
 use Rattle.sz_der.specs.declared.parts.PartFault.{PartFault}
 use Rattle.sz_der.proofs.Optional.{BeginsWithout, without_item, without_nothing}
 use Rattle.sz_der.proofs.Joined.{alone, and_then, Der_with, last}
@@ -24,11 +24,11 @@ use Rattle.sz_x509.proofs.Whole.{front-left}
 
 -- ---- TBSCertList
 
-algorithm_after : (first : Spot) → list_algorithm_spot first ≡ after_optional INTEGER first
+algorithm_after : (first : Spot) → list_algorithm_spot first ≡ after_optional integer_tag first
 unfolding list_algorithm_spot
 algorithm_after first = refl
 
-IsTbsList_from_none : (spot : Spot) (fields : RevocationList) → Found spot SEQUENCE → list_parts_fault (inside spot) ≡ None →
+IsTbsList_from_none : (spot : Spot) (fields : RevocationList) → Found spot sequence_tag → list_parts_fault (inside spot) ≡ None →
     ListAt (inside spot) fields → IsTbsList fields (whole_at spot)
 unfolding list_parts_fault
 IsTbsList_from_none spot fields found n at =
@@ -47,12 +47,12 @@ IsTbsList_from_none spot fields found n at =
     let begins : first.left ≡ version.piece ++ (list_algorithm_spot first).left =
     subst (λ (s : Spot). first.left ≡ version.piece ++ s.left) (sym starts) version.joined in
     let algorithm = IsAlgorithm_from_none (list_algorithm_spot first) octets b.0 in
-    let issuer = found_part _ _ SEQUENCE (list_issuer_spot first) algorithm.1.after c.0 in
+    let issuer = found_part _ _ sequence_tag (list_issuer_spot first) algorithm.1.after c.0 in
     let this_update = IsTime_from_none (this_update_spot first) issuer.after d.0 in
     let next_update = next_update_reads (next_update_spot first) this_update.1.after e.0 in
     let revoked = revoked_reads (revoked_spot first) next_update.after f.0 in
     let extensions = list_extensions_read (list_extensions_spot first) revoked.after g.0 in
-    let only = last extensions.piece extensions.joined (nothing_left _ _ (after_optional CONTEXT_CONSTRUCTED (list_extensions_spot first)) h.0) in
+    let only = last extensions.piece extensions.joined (nothing_left _ _ (after_optional context_constructed (list_extensions_spot first)) h.0) in
     let tail = and_then (whole_at (this_update_spot first)) this_update.1.joined
     (and_then next_update.piece next_update.joined (and_then revoked.piece revoked.joined only)) in
     let all = and_then version.piece begins (and_then (whole_at (list_algorithm_spot first)) algorithm.1.joined
@@ -75,46 +75,46 @@ IsTbsList_from_none spot fields found n at =
     }
 
 -- what the later parts do not begin with
-extensions_without : (tag : ℕ) (piece : List ℕ) → HasListExtensions piece → (CONTEXT_CONSTRUCTED ≡ tag → ⊥) → BeginsWithout tag piece
+extensions_without : (tag : ℕ) (piece : List ℕ) → HasListExtensions piece → (context_constructed ≡ tag → ⊥) → BeginsWithout tag piece
 extensions_without tag piece (inl nothing) differ = λ spot left. without_nothing tag spot (left ∙ nothing)
 extensions_without tag piece (inr some) differ = λ spot left.
-    without_item tag CONTEXT_CONSTRUCTED some.0 piece [] some.2 differ spot (alone piece left)
+    without_item tag context_constructed some.0 piece [] some.2 differ spot (alone piece left)
 
-revoked_without : (tag : ℕ) (entries piece rest : List ℕ) → IsRevoked entries piece → (SEQUENCE ≡ tag → ⊥) → BeginsWithout tag rest →
+revoked_without : (tag : ℕ) (entries piece rest : List ℕ) → IsRevoked entries piece → (sequence_tag ≡ tag → ⊥) → BeginsWithout tag rest →
     BeginsWithout tag (piece ++ rest)
 revoked_without tag entries piece rest (inl nothing) differ without = λ spot joined.
     without spot (joined ∙ ap (λ (x : List ℕ). x ++ rest) nothing.0)
-revoked_without tag entries piece rest (inr some) differ without = without_item tag SEQUENCE entries piece rest some.2 differ
+revoked_without tag entries piece rest (inr some) differ without = without_item tag sequence_tag entries piece rest some.2 differ
 
 list_clear : (first : Spot) (fields : RevocationList) (bytes : List ℕ) (is : IsTbsList fields bytes) →
     first.left ≡ is.version ++ (is.algorithm ++ (fields.issuer ++ (is.this_update ++ (is.next_update ++ (is.revoked ++ is.extensions))))) →
     (list_parts_fault first ≡ None) × ListAt first fields
 unfolding list_parts_fault
 list_clear first fields bytes is left =
-    let no_version = without_item INTEGER SEQUENCE is.is_algorithm.identifier is.algorithm _ is.is_algorithm.is_sequence (λ e. absurd (omega arith)) in
+    let no_version = without_item integer_tag sequence_tag is.is_algorithm.identifier is.algorithm _ is.is_algorithm.is_sequence (λ e. absurd (omega arith)) in
     let version = list_version_clear first is.version _ is.is_version no_version left in
     let begins = ap (λ (s : Spot). s.left) (algorithm_after first) ∙ version.1 in
     let algorithm = algorithm_clear (list_algorithm_spot first) is.algorithm _ is.is_algorithm begins in
-    let issuer = stands (list_issuer_spot first) SEQUENCE is.is_issuer.0 fields.issuer _ is.is_issuer.1 algorithm.1 in
+    let issuer = stands (list_issuer_spot first) sequence_tag is.is_issuer.0 fields.issuer _ is.is_issuer.1 algorithm.1 in
     let this_update = time_clear (this_update_spot first) fields.this_update is.this_update _ is.is_this_update issuer.after_is in
-    let no_utc = revoked_without UTC_TIME fields.entries is.revoked is.extensions is.is_revoked (λ e. absurd (omega arith))
-    (extensions_without UTC_TIME is.extensions is.has_extensions (λ e. absurd (omega arith))) in
-    let no_generalized = revoked_without GENERALIZED_TIME fields.entries is.revoked is.extensions is.is_revoked (λ e. absurd (omega arith))
-    (extensions_without GENERALIZED_TIME is.extensions is.has_extensions (λ e. absurd (omega arith))) in
+    let no_utc = revoked_without utc_time_tag fields.entries is.revoked is.extensions is.is_revoked (λ e. absurd (omega arith))
+    (extensions_without utc_time_tag is.extensions is.has_extensions (λ e. absurd (omega arith))) in
+    let no_generalized = revoked_without generalized_time_tag fields.entries is.revoked is.extensions is.is_revoked (λ e. absurd (omega arith))
+    (extensions_without generalized_time_tag is.extensions is.has_extensions (λ e. absurd (omega arith))) in
     let next_update = next_update_clear (next_update_spot first) fields.next_update is.next_update (is.revoked ++ is.extensions) is.is_next_update no_utc
     no_generalized this_update.2 in
     let revoked = revoked_clear (revoked_spot first) fields.entries is.revoked is.extensions is.is_revoked
-    (extensions_without SEQUENCE is.extensions is.has_extensions (λ e. absurd (omega arith))) next_update.2 in
+    (extensions_without sequence_tag is.extensions is.has_extensions (λ e. absurd (omega arith))) next_update.2 in
     let extensions = list_extensions_clear (list_extensions_spot first) is.extensions is.has_extensions revoked.2 in (
       rw (
         version.0,
         algorithm.0,
-        no_part-stands kinds.Der kinds.Der (list_issuer_spot first) SEQUENCE _ _ _ issuer,
+        no_part-stands kinds.Der kinds.Der (list_issuer_spot first) sequence_tag _ _ _ issuer,
         this_update.0,
         next_update.0,
         revoked.0,
         extensions.0,
-        end_from_nothing kinds.Der kinds.Der (after_optional CONTEXT_CONSTRUCTED (list_extensions_spot first)) extensions.1,
+        end_from_nothing kinds.Der kinds.Der (after_optional context_constructed (list_extensions_spot first)) extensions.1,
       ) refl,
       record {
         issuer = sym issuer.whole_is;
@@ -136,8 +136,8 @@ CrlOf_from_none bytes fields fits n at =
     let e = parts_of_none _ _ d.1 in
     let f = parts_of_none _ _ e.1 in
     let g = parts_of_none _ _ f.1 in
-    let list = found_part _ _ SEQUENCE (front bytes) (rw (front-left bytes) fits) a.0 in
-    let tbs = found_part _ _ SEQUENCE (inside (front bytes)) list.inside b.0 in
+    let list = found_part _ _ sequence_tag (front bytes) (rw (front-left bytes) fits) a.0 in
+    let tbs = found_part _ _ sequence_tag (inside (front bytes)) list.inside b.0 in
     let algorithm = IsAlgorithm_from_none (after (inside (front bytes))) tbs.after d.0 in
     let signature = IsSignature_from_none kinds.Der (after (after (inside (front bytes)))) algorithm.1.after e.0 in
     let only = last (whole_at (after (after (inside (front bytes))))) signature.1.joined
@@ -152,22 +152,22 @@ CrlOf_from_none bytes fields fits n at =
       is_tbs = subst (λ (x : List ℕ). IsTbsList fields x) (sym at.tbs) (IsTbsList_from_none (inside (front bytes)) fields tbs c.0 at.parts);
       is_algorithm = algorithm.0;
       is_signature = rw at.signature signature.0;
-      is_sequence = subst (λ (x : List ℕ). Der SEQUENCE (fields.tbs
+      is_sequence = subst (λ (x : List ℕ). Der sequence_tag (fields.tbs
           ++ (whole_at (after (inside (front bytes))) ++ whole_at (after (after (inside (front bytes)))))) x) (sym whole) (rw at.tbs item);
     }
 
 pub crl_clear : (bytes : List ℕ) (fields : RevocationList) → CrlOf bytes fields → (crl_fault bytes ≡ None) × CrlAt bytes fields
 unfolding crl_fault
 crl_clear bytes fields is =
-    let list = stands (front bytes) SEQUENCE (fields.tbs ++ (is.algorithm ++ is.bits)) bytes [] is.is_sequence (alone bytes (front-left bytes)) in
-    let tbs = stands (inside (front bytes)) SEQUENCE _ fields.tbs (is.algorithm ++ is.bits) is.is_tbs.is_sequence list.inside_is in
+    let list = stands (front bytes) sequence_tag (fields.tbs ++ (is.algorithm ++ is.bits)) bytes [] is.is_sequence (alone bytes (front-left bytes)) in
+    let tbs = stands (inside (front bytes)) sequence_tag _ fields.tbs (is.algorithm ++ is.bits) is.is_tbs.is_sequence list.inside_is in
     let parts = list_clear (inside (inside (front bytes))) fields fields.tbs is.is_tbs tbs.inside_is in
     let algorithm = algorithm_clear (after (inside (front bytes))) is.algorithm is.bits is.is_algorithm tbs.after_is in
     let signature = signature_clear kinds.Der (after (after (inside (front bytes)))) fields.signature is.bits [] is.is_signature
     (alone is.bits algorithm.1) in (
       rw (
-        no_part-stands kinds.Der kinds.Der (front bytes) SEQUENCE (fields.tbs ++ (is.algorithm ++ is.bits)) bytes [] list,
-        no_part-stands kinds.Der kinds.Der (inside (front bytes)) SEQUENCE _ fields.tbs (is.algorithm ++ is.bits) tbs,
+        no_part-stands kinds.Der kinds.Der (front bytes) sequence_tag (fields.tbs ++ (is.algorithm ++ is.bits)) bytes [] list,
+        no_part-stands kinds.Der kinds.Der (inside (front bytes)) sequence_tag _ fields.tbs (is.algorithm ++ is.bits) tbs,
         parts.0,
         algorithm.0,
         signature.0,

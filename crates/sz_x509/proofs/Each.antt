@@ -4,7 +4,7 @@ use Rattle.std.proofs.Common.{◌≡◌, ℕ, zero, suc, inl, inr, ◌<◌, ◌�
 use Rattle.std.proofs.lemmas.Bool.{cases_Bool}
 use Rattle.sz_der.specs.Der.{AreOctets}
 use Rattle.sz_der.specs.Spots.{after, AreEach, each, first_of, is_at_end, or_later, Spot, spots_upto, whole_at}
-use Rattle.sz_der.specs.declared.tag.TheConstants.{SEQUENCE}
+use Rattle.sz_der.specs.Tags.{sequence_tag}
 use Rattle.sz_der.proofs.SpotLists.{less_is_left}
 use Rattle.sz_der.proofs.Spots.{Found, nil_from_end, no_bytes, parts_of_none}
 use Rattle.sz_x509.specs.CertFault.{Fault}
@@ -12,7 +12,7 @@ use Rattle.sz_x509.specs.CertFault.{Fault}
 -- the rule of one item says that it is spelled so
 abbrev pub Reads : {A : Type 0} → (A → List ℕ → Type 0) → (Spot → A) → (Spot → Option Fault) → Type 0
 Reads Is value fault =
-    (spot : Spot) → AreOctets spot.left → fault spot ≡ None → Is (value spot) (whole_at spot) × Found spot SEQUENCE
+    (spot : Spot) → AreOctets spot.left → fault spot ≡ None → Is (value spot) (whole_at spot) × Found spot sequence_tag
 
 pub are_each : {A : Type 0} (Is : A → List ℕ → Type 0) (value : Spot → A) (fault : Spot → Option Fault) → Reads Is value fault →
     (n : ℕ) (spot : Spot) → length spot.left ≤ n → AreOctets spot.left → each fault (spots_upto n spot) ≡ None →

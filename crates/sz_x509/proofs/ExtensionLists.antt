@@ -7,7 +7,7 @@ use Rattle.std.proofs.lemmas.List.{length-map}
 use Rattle.std.proofs.lemmas.List.Folds.{list_any-append}
 use Rattle.sz_der.specs.Der.{AreOctets, Der}
 use Rattle.sz_der.specs.Spots.{after, content_at, inside, is_at_end, rule, Spot, spots_upto, whole_at}
-use Rattle.sz_der.specs.declared.tag.TheConstants.{BOOLEAN, OBJECT_IDENTIFIER, OCTET_STRING, SEQUENCE}
+use Rattle.sz_der.specs.Tags.{boolean_tag, object_identifier_tag, octet_string_tag, sequence_tag}
 use Rattle.sz_der.proofs.SpotLists.{less_is_left}
 use Rattle.sz_der.proofs.Spots.{end_from_nothing, Found, found_part, holds_from_rule, inside-left, nil_from_end, no_bytes, no_part-stands, nothing_left, parts_of_none, rule_from_holds, stands}
 use Rattle.sz_der.proofs.Joined.{alone, and_then, Der_with, last}
@@ -39,7 +39,7 @@ pub record Keeps (spot : Spot) : Type 0 where
 
 pub record IsGood (earlier : List Spot) (spot : Spot) : Type 0 where
   pub is_extension : IsExtension (extension_at spot) (whole_at spot)
-  pub found : Found spot SEQUENCE
+  pub found : Found spot sequence_tag
   pub new : stands_among earlier (identifier_at spot) ≡ false
   pub keeps : Keeps spot
 
@@ -59,10 +59,10 @@ good_from_none earlier spot fits n =
     let g = parts_of_none _ _ f.1 in
     let h = parts_of_none _ _ g.1 in
     let i = parts_of_none _ _ h.1 in
-    let sequence = found_part _ _ SEQUENCE spot fits a.0 in
-    let identifier = found_part _ _ OBJECT_IDENTIFIER (inside spot) sequence.inside c.0 in
+    let sequence = found_part _ _ sequence_tag spot fits a.0 in
+    let identifier = found_part _ _ object_identifier_tag (inside spot) sequence.inside c.0 in
     let flag = IsFlag_from_none (flag_spot spot) identifier.after e.0 in
-    let value = found_part _ _ OCTET_STRING (value_spot spot) flag.after g.0 in
+    let value = found_part _ _ octet_string_tag (value_spot spot) flag.after g.0 in
     let only = last (whole_at (value_spot spot)) value.joined (nothing_left _ _ (after (value_spot spot)) h.0) in
     let parts = and_then (whole_at (inside spot)) identifier.joined (and_then flag.piece flag.joined only) in
     let new = holds_from_rule (not (stands_among earlier (identifier_at spot))) kinds.Extension spot d.0 in
@@ -88,10 +88,10 @@ good_from_none earlier spot fits n =
 
 -- an extension that is spelled at a spot
 pub record IsSpelled (spot : Spot) (extension : Extension) (rest : List ℕ) : Type 0 where
-  pub sequence : part kinds.Der SEQUENCE spot ≡ None
-  pub identifier : part kinds.Der OBJECT_IDENTIFIER (inside spot) ≡ None
+  pub sequence : part kinds.Der sequence_tag spot ≡ None
+  pub identifier : part kinds.Der object_identifier_tag (inside spot) ≡ None
   pub flag : flag_fault (flag_spot spot) ≡ None
-  pub value : part kinds.Der OCTET_STRING (value_spot spot) ≡ None
+  pub value : part kinds.Der octet_string_tag (value_spot spot) ≡ None
   pub end : end kinds.Der (after (value_spot spot)) ≡ None
   pub is_extension : extension_at spot ≡ extension
   pub after : (after spot).left ≡ rest
@@ -106,18 +106,18 @@ pub spelled : (spot : Spot) (extension : Extension) (whole rest : List ℕ) → 
     IsSpelled spot extension rest
 unfolding identifier_at flag_spot value_spot
 spelled spot extension whole rest is joined =
-    let sequence = stands spot SEQUENCE (is.identifier ++ (is.flag ++ is.value)) whole rest is.is_sequence joined in
-    let identifier = stands (inside spot) OBJECT_IDENTIFIER extension.identifier is.identifier (is.flag ++ is.value) is.is_identifier
+    let sequence = stands spot sequence_tag (is.identifier ++ (is.flag ++ is.value)) whole rest is.is_sequence joined in
+    let identifier = stands (inside spot) object_identifier_tag extension.identifier is.identifier (is.flag ++ is.value) is.is_identifier
     sequence.inside_is in
-    let no_flag : BeginsWithout BOOLEAN is.value = λ there left.
-    without_item BOOLEAN OCTET_STRING extension.value is.value [] is.is_value (λ e. absurd (omega arith)) there (alone is.value left) in
+    let no_flag : BeginsWithout boolean_tag is.value = λ there left.
+    without_item boolean_tag octet_string_tag extension.value is.value [] is.is_value (λ e. absurd (omega arith)) there (alone is.value left) in
     let flag = flag_clear (flag_spot spot) extension.critical is.flag is.value is.is_flag no_flag identifier.after_is in
-    let value = stands (value_spot spot) OCTET_STRING extension.value is.value [] is.is_value (alone is.value flag.2) in
+    let value = stands (value_spot spot) octet_string_tag extension.value is.value [] is.is_value (alone is.value flag.2) in
     record {
-      sequence = no_part-stands kinds.Der kinds.Der spot SEQUENCE (is.identifier ++ (is.flag ++ is.value)) whole rest sequence;
-      identifier = no_part-stands kinds.Der kinds.Der (inside spot) OBJECT_IDENTIFIER extension.identifier is.identifier (is.flag ++ is.value) identifier;
+      sequence = no_part-stands kinds.Der kinds.Der spot sequence_tag (is.identifier ++ (is.flag ++ is.value)) whole rest sequence;
+      identifier = no_part-stands kinds.Der kinds.Der (inside spot) object_identifier_tag extension.identifier is.identifier (is.flag ++ is.value) identifier;
       flag = flag.0;
-      value = no_part-stands kinds.Der kinds.Der (value_spot spot) OCTET_STRING extension.value is.value [] value;
+      value = no_part-stands kinds.Der kinds.Der (value_spot spot) octet_string_tag extension.value is.value [] value;
       end = end_from_nothing kinds.Der kinds.Der (after (value_spot spot)) value.after_is;
       is_extension = same_extension extension (identifier_at spot) (flag_at (flag_spot spot)) (content_at (value_spot spot)) identifier.content_is
           flag.1 value.content_is;
@@ -223,9 +223,9 @@ covers_more earlier spot identifier covers other none same =
 pub new_of : (earlier : List Spot) (spot : Spot) → extension_fault earlier spot ≡ None → stands_among earlier (identifier_at spot) ≡ false
 unfolding extension_fault
 new_of earlier spot n =
-    let a = parts_of_none (part kinds.Der SEQUENCE spot) _ n in
+    let a = parts_of_none (part kinds.Der sequence_tag spot) _ n in
     let b = parts_of_none (rule (nat_lt (length earlier) most_extensions) kinds.Extension spot) _ a.1 in
-    let c = parts_of_none (part kinds.Der OBJECT_IDENTIFIER (inside spot)) _ b.1 in
+    let c = parts_of_none (part kinds.Der object_identifier_tag (inside spot)) _ b.1 in
     let d = parts_of_none (rule (not (stands_among earlier (identifier_at spot))) kinds.Extension spot) _ c.1 in
     not-true (stands_among earlier (identifier_at spot))
     (holds_from_rule (not (stands_among earlier (identifier_at spot))) kinds.Extension spot d.0)
@@ -282,7 +282,7 @@ pub clear_each : (n : ℕ) (earlier : List Spot) (spot : Spot) (extensions : Lis
 unfolding spots_upto each_fault is_at_end
 clear_each zero earlier spot [] few are room new distinct understood clear = (refl, refl)
 clear_each zero earlier spot (extension ∷ extensions) few are room new distinct understood clear =
-    absurd (omega (arith, few, ap length are.3, length-append are.0 are.1, whole_some SEQUENCE _ are.0 are.2.is_sequence))
+    absurd (omega (arith, few, ap length are.3, length-append are.0 are.1, whole_some sequence_tag _ are.0 are.2.is_sequence))
 clear_each (suc n) earlier spot [] few are room new distinct understood clear = rw are (refl, refl)
 clear_each (suc n) earlier spot (extension ∷ extensions) few are room new distinct understood clear =
     let is = spelled spot extension are.0 are.1 are.2 are.3 in
@@ -290,10 +290,11 @@ clear_each (suc n) earlier spot (extension ∷ extensions) few are room new dist
     clear.0 (inside (value_spot spot)) (inside-left (value_spot spot) ∙ ap (λ (x : Extension). x.value) is.is_extension) in
     let here = clear_where_spelled earlier spot extension are.1 is (omega (arith, room)) new.0 understood.0 value in
     let same : identifier_at spot ≡ extension.identifier = ap (λ (x : Extension). x.identifier) is.is_extension in
-    let whole = whole_some SEQUENCE _ are.0 are.2.is_sequence in
+    let whole = whole_some sequence_tag _ are.0 are.2.is_sequence in
     let fewer : length (after spot).left ≤ n = omega (arith, ap length are.3, length-append are.0 are.1, ap length is.after) in
     let rest = clear_each n (earlier ++ spot ∷ []) (after spot) extensions fewer (rw is.after are.4)
-    (omega (arith, room, length-append earlier (spot ∷ []))) (still_new earlier spot extension.identifier extensions same new.1 distinct.0) distinct.1 understood.1 clear.1 in (
+    (omega (arith, room, length-append earlier (spot ∷ [])))
+    (still_new earlier spot extension.identifier extensions same new.1 distinct.0) distinct.1 understood.1 clear.1 in (
       rw (is.some, here, rest.0) refl,
       rw is.some (ap (λ (x : Extension). x ∷ extensions_at (spots_upto n (after spot))) is.is_extension ∙ ap (λ (xs : List Extension). extension ∷ xs) rest.1),
     )

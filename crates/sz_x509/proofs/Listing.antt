@@ -1,7 +1,7 @@
 -- A walk over the entries of a list, up to the one with a serial number.
 use Rattle.std.proofs.Common.{◌≡◌, ℕ, false, List, [], ◌∷◌, refl, sym, ap, subst, ◌∙◌, arith, length, length-append}
 use Rattle.sz_der.specs.Spots.{after, Spot, spot_of}
-use Rattle.sz_der.specs.declared.tag.TheConstants.{SEQUENCE}
+use Rattle.sz_der.specs.Tags.{sequence_tag}
 use Rattle.sz_der.specs.declared.reader.DerReader.{DerReader}
 use Rattle.sz_x509.specs.CrlPlaces.{BeginsEntry}
 use Rattle.sz_x509.specs.RevocationList.{AreEntries, is_listed}
@@ -37,7 +37,7 @@ lists_on reader (serial ∷ rest) are more =
 pub lists_none : (serials : List (List ℕ)) (bytes serial : List ℕ) → AreEntries serials bytes → bytes ≡ [] → is_listed serial serials ≡ false
 lists_none [] bytes serial are nothing = refl
 lists_none (first ∷ rest) bytes serial are nothing =
-    absurd (omega (arith, ap length are.3, length-append are.0 are.1, whole_some SEQUENCE _ are.0 are.2.is_sequence, ap length nothing))
+    absurd (omega (arith, ap length are.3, length-append are.0 are.1, whole_some sequence_tag _ are.0 are.2.is_sequence, ap length nothing))
 
 pub next_left : (reader new : DerReader) (rest : List (List ℕ)) → spot_of new ≡ after (spot_of reader) → AreEntries rest (after (spot_of reader)).left →
     AreEntries rest new.left.now

@@ -9,7 +9,7 @@ use Rattle.std.proofs.lemmas.Nat.Bits.{bit_at-lt, bit_at-suc, bit_at_lowest}
 use Rattle.sz_der.specs.Content.{bit_of, HasNamedBits, HoldsBits}
 use Rattle.sz_der.specs.Der.{AreOctets}
 use Rattle.sz_der.specs.Spots.{after, after_optional, at, content_at, front, inside, is_next, rule, Spot, spots_from, whole_at}
-use Rattle.sz_der.specs.declared.tag.TheConstants.{OBJECT_IDENTIFIER, OCTET_STRING, SEQUENCE}
+use Rattle.sz_der.specs.Tags.{object_identifier_tag, octet_string_tag, sequence_tag}
 use Rattle.sz_der.specs.declared.parts.PartFault.{PartFault}
 use Rattle.sz_der.proofs.Spots.{all_none, parts_of_none}
 use Rattle.sz_der.proofs.Octets.{same_bytes}
@@ -20,8 +20,8 @@ use Rattle.sz_x509.specs.Extensions.{is_known, most_extensions, Restrictions}
 use Rattle.sz_x509.specs.View.{view}
 use Rattle.sz_x509.specs.declared.cert.Cert.{Cert}
 use Rattle.sz_x509.specs.declared.fault.CertKind.TheVariants as kinds
-use Rattle.sz_x509.specs.declared.identifier.TheConstants.{BASIC_CONSTRAINTS, KEY_USAGE, SUBJECT_KEY_IDENTIFIER}
-use Rattle.sz_x509.specs.declared.tag.TheConstants.{EXTENSIONS, ISSUER_UNIQUE_ID, SUBJECT_UNIQUE_ID}
+use Rattle.sz_x509.specs.Identifiers.{basic_constraints_oid, key_usage_oid, subject_key_identifier_oid}
+use Rattle.sz_x509.specs.Tags.{extensions_tag, issuer_unique_id_tag, subject_unique_id_tag}
 use Rattle.sz_x509.specs.declared.fault.CertKind.{CertKind}
 use Rattle.sz_x509.proofs.Chains.{bits_at}
 use Rattle.sz_x509.proofs.Restricted.{usage_rule}
@@ -137,13 +137,13 @@ value_of_none : (earlier : List Spot) (spot : Spot) → extension_fault earlier 
 unfolding extension_fault
 value_of_none earlier spot n =
     let rules = all_none (
-    part kinds.Der SEQUENCE spot
+    part kinds.Der sequence_tag spot
     ∷ rule (nat_lt (length earlier) most_extensions) kinds.Extension spot
-    ∷ part kinds.Der OBJECT_IDENTIFIER (inside spot)
+    ∷ part kinds.Der object_identifier_tag (inside spot)
     ∷ rule (not (stands_among earlier (identifier_at spot))) kinds.Extension spot
     ∷ flag_fault (flag_spot spot)
     ∷ rule (not (flag_at (flag_spot spot)) || is_known (identifier_at spot)) kinds.Extension spot
-    ∷ part kinds.Der OCTET_STRING (value_spot spot)
+    ∷ part kinds.Der octet_string_tag (value_spot spot)
     ∷ end kinds.Der (after (value_spot spot))
     ∷ value_fault (identifier_at spot) (inside (value_spot spot))
     ∷ []) n in
@@ -160,7 +160,7 @@ values_hold earlier (spot ∷ later) n =
 field_values_hold : (field : Spot) → extensions_fault field ≡ None → AllByRecursion ValueHolds (extension_spots field)
 unfolding extensions_fault
 field_values_hold field n =
-    elim (cases_Bool (is_next EXTENSIONS field)) [
+    elim (cases_Bool (is_next extensions_tag field)) [
       | inl next ↦
           let a = parts_of_none _ _ (rw next at n) in
           let b = parts_of_none _ _ a.1 in
@@ -169,14 +169,14 @@ field_values_hold field n =
       | inr other ↦ rw (spots_other field other) tt
     ]
 
-some_usage : (spots : List Spot) → AllByRecursion ValueHolds spots → (usage : Option ℕ) × UsageAt (value_among KEY_USAGE spots) usage
+some_usage : (spots : List Spot) → AllByRecursion ValueHolds spots → (usage : Option ℕ) × UsageAt (value_among key_usage_oid spots) usage
 unfolding value_among
 some_usage [] hold = (None, refl)
 some_usage (spot ∷ spots) hold =
-    elim (cases_Bool (bytes_eq (identifier_at spot) KEY_USAGE)) [
+    elim (cases_Bool (bytes_eq (identifier_at spot) key_usage_oid)) [
       | inl is ↦
           let value = inside (value_spot spot) in
-          let same = same_bytes (identifier_at spot) KEY_USAGE is in
+          let same = same_bytes (identifier_at spot) key_usage_oid is in
           rw is (usage_of value (sym (usage_rule (identifier_at spot) value same) ∙ hold.0))
       | inr other ↦ rw other (some_usage spots hold.1)
     ]
@@ -188,14 +188,14 @@ extensions_part first n =
     version_fault first
     ∷ integer_fault (serial_spot first)
     ∷ algorithm_fault (after (serial_spot first))
-    ∷ part kinds.Der SEQUENCE (issuer_spot first)
+    ∷ part kinds.Der sequence_tag (issuer_spot first)
     ∷ validity_fault (validity_spot first)
-    ∷ part kinds.Der SEQUENCE (subject_spot first)
+    ∷ part kinds.Der sequence_tag (subject_spot first)
     ∷ key_fault (key_spot first)
-    ∷ unique_id_fault ISSUER_UNIQUE_ID (issuer_id_spot first)
-    ∷ unique_id_fault SUBJECT_UNIQUE_ID (subject_id_spot first)
+    ∷ unique_id_fault issuer_unique_id_tag (issuer_id_spot first)
+    ∷ unique_id_fault subject_unique_id_tag (subject_id_spot first)
     ∷ extensions_fault (extensions_spot first)
-    ∷ end kinds.Der (after_optional EXTENSIONS (extensions_spot first))
+    ∷ end kinds.Der (after_optional extensions_tag (extensions_spot first))
     ∷ []) n in
     rules.1.1.1.1.1.1.1.1.1.0
 
@@ -221,10 +221,10 @@ some_fields bytes n =
         subject = whole_at (subject_spot first);
         key = key_at (key_spot first);
         restrictions = record {
-          ca = ca_at (value_among BASIC_CONSTRAINTS spots);
-          path_len = path_len_at (value_among BASIC_CONSTRAINTS spots);
+          ca = ca_at (value_among basic_constraints_oid spots);
+          path_len = path_len_at (value_among basic_constraints_oid spots);
           usage = usage.0;
-          key_id = key_id_at (value_among SUBJECT_KEY_IDENTIFIER spots);
+          key_id = key_id_at (value_among subject_key_identifier_oid spots);
         };
         signature = octets_at (after (after (inside (front bytes))));
       },

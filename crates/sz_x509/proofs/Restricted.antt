@@ -9,7 +9,7 @@ use Rattle.sz_der.proofs.Octets.{bytes_same, same_bytes}
 use Rattle.sz_x509.specs.CertFault.{basic_constraints_fault, identifier_at, key_identifier_fault, key_usage_fault, value_fault, value_spot}
 use Rattle.sz_x509.specs.CertPlaces.{ca_at, key_id_at, path_len_at, RestrictedAt, UsageAt, value_among}
 use Rattle.sz_x509.specs.Extensions.{AreDistinct, Extension, HasBasicConstraints, HasKeyIdentifier, HasKeyUsage, most_extensions, Restrict, Restrictions, value_of}
-use Rattle.sz_x509.specs.declared.identifier.TheConstants.{BASIC_CONSTRAINTS, KEY_USAGE, SUBJECT_KEY_IDENTIFIER}
+use Rattle.sz_x509.specs.Identifiers.{basic_constraints_oid, key_usage_oid, subject_key_identifier_oid}
 use Rattle.sz_x509.proofs.Chains.{basic_constraints_clear, IsBasicConstraints_from_none, IsKeyIdentifier_from_none, IsKeyUsage_from_none, key_identifier_clear, key_usage_clear}
 use Rattle.sz_x509.proofs.ExtensionLists.{are_understood, extensions_at, Keeps, ValueIsClear}
 
@@ -54,25 +54,25 @@ match_values identifier (spot ∷ spots) keep =
 
 -- ---- the rule of a value, by its identifier
 
-pub basic_rule : (identifier : List ℕ) (spot : Spot) → identifier ≡ BASIC_CONSTRAINTS → value_fault identifier spot ≡ basic_constraints_fault spot
+pub basic_rule : (identifier : List ℕ) (spot : Spot) → identifier ≡ basic_constraints_oid → value_fault identifier spot ≡ basic_constraints_fault spot
 unfolding value_fault
 basic_rule identifier spot is = rw is refl
 
-pub usage_rule : (identifier : List ℕ) (spot : Spot) → identifier ≡ KEY_USAGE → value_fault identifier spot ≡ key_usage_fault spot
+pub usage_rule : (identifier : List ℕ) (spot : Spot) → identifier ≡ key_usage_oid → value_fault identifier spot ≡ key_usage_fault spot
 unfolding value_fault
 usage_rule identifier spot is = rw is refl
 
-pub key_id_rule : (identifier : List ℕ) (spot : Spot) → identifier ≡ SUBJECT_KEY_IDENTIFIER → value_fault identifier spot ≡ key_identifier_fault spot
+pub key_id_rule : (identifier : List ℕ) (spot : Spot) → identifier ≡ subject_key_identifier_oid → value_fault identifier spot ≡ key_identifier_fault spot
 unfolding value_fault
 key_id_rule identifier spot is = rw is refl
 
 -- ---- from places to the list
 
 basic_from_places : (spots : List Spot) (ca : Bool) (path_len : Option ℕ) → AllByRecursion Keeps spots →
-    ca ≡ ca_at (value_among BASIC_CONSTRAINTS spots) → path_len ≡ path_len_at (value_among BASIC_CONSTRAINTS spots) →
-    HasBasicConstraints (value_of BASIC_CONSTRAINTS (extensions_at spots)) ca path_len
+    ca ≡ ca_at (value_among basic_constraints_oid spots) → path_len ≡ path_len_at (value_among basic_constraints_oid spots) →
+    HasBasicConstraints (value_of basic_constraints_oid (extensions_at spots)) ca path_len
 basic_from_places spots ca path_len keep cas paths =
-    elim (match_values BASIC_CONSTRAINTS spots keep) [
+    elim (match_values basic_constraints_oid spots keep) [
       | inl none ↦ rw none.1 (rw none.0 at cas, rw none.0 at paths)
       | inr found ↦
           let is = found.1 in
@@ -82,10 +82,10 @@ basic_from_places spots ca path_len keep cas paths =
           rw (is.value, rw is.among at cas, rw is.among at paths) reads
     ]
 
-usage_from_places : (spots : List Spot) (usage : Option ℕ) → AllByRecursion Keeps spots → UsageAt (value_among KEY_USAGE spots) usage →
-    HasKeyUsage (value_of KEY_USAGE (extensions_at spots)) usage
+usage_from_places : (spots : List Spot) (usage : Option ℕ) → AllByRecursion Keeps spots → UsageAt (value_among key_usage_oid spots) usage →
+    HasKeyUsage (value_of key_usage_oid (extensions_at spots)) usage
 usage_from_places spots usage keep at =
-    elim (match_values KEY_USAGE spots keep) [
+    elim (match_values key_usage_oid spots keep) [
       | inl none ↦ rw none.1 (rw none.0 at at)
       | inr found ↦
           let is = found.1 in
@@ -96,10 +96,10 @@ usage_from_places spots usage keep at =
     ]
 
 key_id_from_places : (spots : List Spot) (key_id : Option (List ℕ)) → AllByRecursion Keeps spots →
-    key_id ≡ key_id_at (value_among SUBJECT_KEY_IDENTIFIER spots) →
-    HasKeyIdentifier (value_of SUBJECT_KEY_IDENTIFIER (extensions_at spots)) key_id
+    key_id ≡ key_id_at (value_among subject_key_identifier_oid spots) →
+    HasKeyIdentifier (value_of subject_key_identifier_oid (extensions_at spots)) key_id
 key_id_from_places spots key_id keep at =
-    elim (match_values SUBJECT_KEY_IDENTIFIER spots keep) [
+    elim (match_values subject_key_identifier_oid spots keep) [
       | inl none ↦ rw none.1 (rw none.0 at at)
       | inr found ↦
           let is = found.1 in
@@ -109,7 +109,8 @@ key_id_from_places spots key_id keep at =
     ]
 
 pub restrict_from_places : (spots : List Spot) (restrictions : Restrictions) → AllByRecursion Keeps spots →
-    length (extensions_at spots) ≤ most_extensions → AreDistinct (extensions_at spots) → RestrictedAt spots restrictions → Restrict (extensions_at spots) restrictions
+    length (extensions_at spots) ≤ most_extensions → AreDistinct (extensions_at spots) → RestrictedAt spots restrictions → Restrict
+    (extensions_at spots) restrictions
 restrict_from_places spots restrictions keep few distinct at = record {
   few = few;
   distinct = distinct;
@@ -144,22 +145,22 @@ value_is_clear : (extension : Extension) (extensions : List Extension) (restrict
     IsFoundIn extensions extension → ValueIsClear extension
 unfolding value_fault
 value_is_clear extension extensions restrictions is found spot left =
-    elim (cases_Bool (bytes_eq extension.identifier BASIC_CONSTRAINTS)) [
+    elim (cases_Bool (bytes_eq extension.identifier basic_constraints_oid)) [
       | inl basic ↦
-          let same = same_bytes extension.identifier BASIC_CONSTRAINTS basic in
-          let value : value_of BASIC_CONSTRAINTS extensions ≡ Some extension.value = rw same at found in
+          let same = same_bytes extension.identifier basic_constraints_oid basic in
+          let value : value_of basic_constraints_oid extensions ≡ Some extension.value = rw same at found in
           let reads = rw value at is.basic_constraints in
           rw basic (basic_constraints_clear spot restrictions.ca restrictions.path_len extension.value reads left).0
-      | inr not_basic ↦ elim (cases_Bool (bytes_eq extension.identifier KEY_USAGE)) [
+      | inr not_basic ↦ elim (cases_Bool (bytes_eq extension.identifier key_usage_oid)) [
         | inl usage ↦
-            let same = same_bytes extension.identifier KEY_USAGE usage in
-            let value : value_of KEY_USAGE extensions ≡ Some extension.value = rw same at found in
+            let same = same_bytes extension.identifier key_usage_oid usage in
+            let value : value_of key_usage_oid extensions ≡ Some extension.value = rw same at found in
             let reads = rw value at is.key_usage in
             rw (not_basic, usage) (key_usage_clear spot reads.0 extension.value reads.2 left).0
-        | inr not_usage ↦ elim (cases_Bool (bytes_eq extension.identifier SUBJECT_KEY_IDENTIFIER)) [
+        | inr not_usage ↦ elim (cases_Bool (bytes_eq extension.identifier subject_key_identifier_oid)) [
           | inl key_id ↦
-              let same = same_bytes extension.identifier SUBJECT_KEY_IDENTIFIER key_id in
-              let value : value_of SUBJECT_KEY_IDENTIFIER extensions ≡ Some extension.value = rw same at found in
+              let same = same_bytes extension.identifier subject_key_identifier_oid key_id in
+              let value : value_of subject_key_identifier_oid extensions ≡ Some extension.value = rw same at found in
               let reads = rw value at is.key_identifier in
               rw (not_basic, not_usage, key_id) (key_identifier_clear spot reads.0 extension.value reads.2 left).0
           | inr other ↦ rw (not_basic, not_usage, other) refl
@@ -190,20 +191,21 @@ lookup identifier (spot ∷ spots) =
       | inr other ↦ rw other (lookup identifier spots)
     ]
 
-basic_at_places : (spots : List Spot) (ca : Bool) (path_len : Option ℕ) → HasBasicConstraints (value_of BASIC_CONSTRAINTS (extensions_at spots)) ca path_len →
-    (ca ≡ ca_at (value_among BASIC_CONSTRAINTS spots)) × (path_len ≡ path_len_at (value_among BASIC_CONSTRAINTS spots))
+basic_at_places : (spots : List Spot) (ca : Bool) (path_len : Option ℕ) → HasBasicConstraints
+    (value_of basic_constraints_oid (extensions_at spots)) ca path_len →
+    (ca ≡ ca_at (value_among basic_constraints_oid spots)) × (path_len ≡ path_len_at (value_among basic_constraints_oid spots))
 basic_at_places spots ca path_len has =
-    elim (lookup BASIC_CONSTRAINTS spots) [
+    elim (lookup basic_constraints_oid spots) [
       | inl none ↦ let is = rw none.1 at has in rw none.0 is
       | inr found ↦
           let reads = basic_constraints_clear found.0 ca path_len found.0.left (rw found.2 at has) refl in
           rw found.1 (sym reads.1, sym reads.2)
     ]
 
-usage_at_places : (spots : List Spot) (usage : Option ℕ) → HasKeyUsage (value_of KEY_USAGE (extensions_at spots)) usage →
-    UsageAt (value_among KEY_USAGE spots) usage
+usage_at_places : (spots : List Spot) (usage : Option ℕ) → HasKeyUsage (value_of key_usage_oid (extensions_at spots)) usage →
+    UsageAt (value_among key_usage_oid spots) usage
 usage_at_places spots usage has =
-    elim (lookup KEY_USAGE spots) [
+    elim (lookup key_usage_oid spots) [
       | inl none ↦ rw none.0 (rw none.1 at has)
       | inr found ↦
           let is = rw found.2 at has in
@@ -211,10 +213,10 @@ usage_at_places spots usage has =
           rw found.1 (is.0, is.1, is.2.of_16_bits, reads.1)
     ]
 
-key_id_at_places : (spots : List Spot) (key_id : Option (List ℕ)) → HasKeyIdentifier (value_of SUBJECT_KEY_IDENTIFIER (extensions_at spots)) key_id →
-    key_id ≡ key_id_at (value_among SUBJECT_KEY_IDENTIFIER spots)
+key_id_at_places : (spots : List Spot) (key_id : Option (List ℕ)) → HasKeyIdentifier (value_of subject_key_identifier_oid (extensions_at spots)) key_id →
+    key_id ≡ key_id_at (value_among subject_key_identifier_oid spots)
 key_id_at_places spots key_id has =
-    elim (lookup SUBJECT_KEY_IDENTIFIER spots) [
+    elim (lookup subject_key_identifier_oid spots) [
       | inl none ↦ rw none.0 (rw none.1 at has)
       | inr found ↦
           let is = rw found.2 at has in

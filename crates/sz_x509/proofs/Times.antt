@@ -7,7 +7,7 @@ use Rattle.sz_calendar.specs.CivilTime.{CivilTime, IsReal}
 use Rattle.sz_calendar.specs.Gregorian.{IsDate, month_lengths}
 use Rattle.sz_calendar.proofs.Seconds.{same_parts}
 use Rattle.sz_der.specs.Time.{century, generalized_text, in_year, IsGeneralizedTime, IsUtcTime, NamesTime, two_digits, utc_text, year_in_century}
-use Rattle.sz_der.specs.declared.tag.TheConstants.{GENERALIZED_TIME, UTC_TIME}
+use Rattle.sz_der.specs.Tags.{generalized_time_tag, utc_time_tag}
 use Rattle.sz_der.proofs.Octets.{bytes_same, same_bytes}
 use Rattle.sz_x509.specs.Contents.{digits_at, generalized_time_in, is_date, is_generalized_time, is_real, is_time, is_utc_time, time_in, utc_time_in, year_of_two}
 
@@ -186,20 +186,20 @@ generalized_from_test text e =
 
 pub NamesTime_from_test : (tag : ℕ) (text : List ℕ) → is_time tag text ≡ true → NamesTime tag text (time_in tag text)
 NamesTime_from_test tag text e =
-    elim (or_cases (tag == UTC_TIME && is_utc_time text) (tag == GENERALIZED_TIME && is_generalized_time text) e) [
+    elim (or_cases (tag == utc_time_tag && is_utc_time text) (tag == generalized_time_tag && is_generalized_time text) e) [
       | inl utc ↦
-          let tests = and_parts (tag == UTC_TIME) (is_utc_time text) utc in
-          rw tests.0 (inl (eqb-true tag UTC_TIME tests.0, utc_from_test text tests.1))
+          let tests = and_parts (tag == utc_time_tag) (is_utc_time text) utc in
+          rw tests.0 (inl (eqb-true tag utc_time_tag tests.0, utc_from_test text tests.1))
       | inr generalized ↦
-          let tests = and_parts (tag == GENERALIZED_TIME) (is_generalized_time text) generalized in
-          let is = eqb-true tag GENERALIZED_TIME tests.0 in
+          let tests = and_parts (tag == generalized_time_tag) (is_generalized_time text) generalized in
+          let is = eqb-true tag generalized_time_tag tests.0 in
           rw is (inr (refl, generalized_from_test text tests.1))
     ]
 
 pub time_test : (tag : ℕ) (text : List ℕ) (time : CivilTime) → NamesTime tag text time → is_time tag text ≡ true
-time_test tag text time (inl utc) = or_left _ _ (and_from _ _ (eq-eqb tag UTC_TIME utc.0) (utc_test time text utc.1))
+time_test tag text time (inl utc) = or_left _ _ (and_from _ _ (eq-eqb tag utc_time_tag utc.0) (utc_test time text utc.1))
 time_test tag text time (inr generalized) =
-    or_right _ _ (and_from _ _ (eq-eqb tag GENERALIZED_TIME generalized.0) (generalized_test time text generalized.1))
+    or_right _ _ (and_from _ _ (eq-eqb tag generalized_time_tag generalized.0) (generalized_test time text generalized.1))
 
 pub time_value : (tag : ℕ) (text : List ℕ) (time : CivilTime) → NamesTime tag text time → time_in tag text ≡ time
 time_value tag text time (inl utc) = rw utc.0 (utc_time_is time text utc.1)

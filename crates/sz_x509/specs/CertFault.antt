@@ -4,14 +4,14 @@ use Rattle.std.specs.Prelude.{ℕ, ◌+◌, ◌&&◌, ◌||◌, ◌==◌, not, i
 use Rattle.std.specs.List.{list_any}
 use Rattle.sz_der.specs.Integer.{is_integer}
 use Rattle.sz_der.specs.Spots.{after, after_optional, content_at, first_of, front, if_next, inside, is_next, no_end, no_integer, no_item, no_part, rule, Spot, spots_from, tag_at}
-use Rattle.sz_der.specs.declared.tag.TheConstants.{BIT_STRING, BOOLEAN, CONTEXT_CONSTRUCTED, INTEGER, OBJECT_IDENTIFIER, OCTET_STRING, SEQUENCE}
+use Rattle.sz_der.specs.Tags.{bit_string_tag, boolean_tag, context_constructed, integer_tag, object_identifier_tag, octet_string_tag, sequence_tag}
 use Rattle.sz_x509.specs.Certificate.{key_length}
 use Rattle.sz_x509.specs.Contents.{is_bits, is_boolean, is_time, is_true_content, is_u32, is_whole_octets}
 use Rattle.sz_x509.specs.Extensions.{is_known, most_extensions}
 use Rattle.sz_x509.specs.declared.fault.CertKind.{CertKind}
 use Rattle.sz_x509.specs.declared.fault.CertKind.TheVariants as kind
-use Rattle.sz_x509.specs.declared.identifier.TheConstants.{BASIC_CONSTRAINTS, HSS_LMS, KEY_USAGE, SUBJECT_KEY_IDENTIFIER}
-use Rattle.sz_x509.specs.declared.tag.TheConstants.{EXTENSIONS, ISSUER_UNIQUE_ID, SUBJECT_UNIQUE_ID}
+use Rattle.sz_x509.specs.Identifiers.{basic_constraints_oid, hss_lms_oid, key_usage_oid, subject_key_identifier_oid}
+use Rattle.sz_x509.specs.Tags.{extensions_tag, issuer_unique_id_tag, subject_unique_id_tag}
 
 -- a fault: its kind and its place, counted from 0
 abbrev pub Fault : Type 0
@@ -34,9 +34,9 @@ typed test spot = rule (test (content_at spot)) kind.Der spot
 -- AlgorithmIdentifier of HSS/LMS
 unfoldable pub algorithm_fault : Spot → Option Fault
 algorithm_fault spot = first_of (
-    part kind.Algorithm SEQUENCE spot
-    ∷ part kind.Algorithm OBJECT_IDENTIFIER (inside spot)
-    ∷ rule (bytes_eq (content_at (inside spot)) HSS_LMS) kind.Algorithm (inside spot)
+    part kind.Algorithm sequence_tag spot
+    ∷ part kind.Algorithm object_identifier_tag (inside spot)
+    ∷ rule (bytes_eq (content_at (inside spot)) hss_lms_oid) kind.Algorithm (inside spot)
     ∷ end kind.Algorithm (after (inside spot))
     ∷ [])
 
@@ -45,7 +45,7 @@ integer_fault spot = no_integer kind.Der kind.Der spot
 
 -- a BIT STRING of whole octets
 unfoldable pub octets_fault : CertKind → Spot → Option Fault
-octets_fault other spot = first_of (part other BIT_STRING spot ∷ typed is_whole_octets spot ∷ [])
+octets_fault other spot = first_of (part other bit_string_tag spot ∷ typed is_whole_octets spot ∷ [])
 
 -- these octets
 unfoldable pub octets_at : Spot → List ℕ
@@ -56,19 +56,19 @@ time_fault spot = first_of (no_item kind.Der spot ∷ rule (is_time (tag_at spot
 
 -- BOOLEAN DEFAULT FALSE
 unfoldable pub flag_fault : Spot → Option Fault
-flag_fault spot = if_next BOOLEAN spot (no_item kind.Der spot ∷ typed is_boolean spot ∷ [])
+flag_fault spot = if_next boolean_tag spot (no_item kind.Der spot ∷ typed is_boolean spot ∷ [])
 
 -- the value that it has
 unfoldable pub flag_at : Spot → Bool
-flag_at spot = is_next BOOLEAN spot && is_true_content (content_at spot)
+flag_at spot = is_next boolean_tag spot && is_true_content (content_at spot)
 
 -- ---- parts of a certificate alone
 
 -- `[0]` and version 3
 unfoldable pub version_fault : Spot → Option Fault
 version_fault spot = first_of (
-    part kind.Version CONTEXT_CONSTRUCTED spot
-    ∷ part kind.Version INTEGER (inside spot)
+    part kind.Version context_constructed spot
+    ∷ part kind.Version integer_tag (inside spot)
     ∷ typed is_integer (inside spot)
     ∷ rule (bytes_eq (content_at (inside spot)) (2 ∷ [])) kind.Version (inside spot)
     ∷ end kind.Version (after (inside spot))
@@ -76,7 +76,7 @@ version_fault spot = first_of (
 
 unfoldable pub validity_fault : Spot → Option Fault
 validity_fault spot = first_of (
-    part kind.Der SEQUENCE spot
+    part kind.Der sequence_tag spot
     ∷ time_fault (inside spot)
     ∷ time_fault (after (inside spot))
     ∷ end kind.Der (after (after (inside spot)))
@@ -98,7 +98,7 @@ bits_of_key spot = after (inside spot)
 
 unfoldable pub key_fault : Spot → Option Fault
 key_fault spot = first_of (
-    part kind.Key SEQUENCE spot
+    part kind.Key sequence_tag spot
     ∷ algorithm_fault (inside spot)
     ∷ octets_fault kind.Key (bits_of_key spot)
     ∷ rule (holds_key (octets_at (bits_of_key spot))) kind.Key (bits_of_key spot)
@@ -112,7 +112,7 @@ unique_id_fault tag spot = if_next tag spot (no_item kind.Der spot ∷ [])
 -- ---- the values of extensions, in the content of their OCTET STRING
 
 unfoldable pub path_length_fault : Spot → Option Fault
-path_length_fault spot = if_next INTEGER spot (
+path_length_fault spot = if_next integer_tag spot (
     no_item kind.Der spot
     ∷ typed is_integer spot
     ∷ rule (is_u32 (content_at spot)) kind.Extension spot
@@ -120,29 +120,30 @@ path_length_fault spot = if_next INTEGER spot (
 
 -- the path length of basicConstraints, after its flag
 abbrev pub path_length_spot : Spot → Spot
-path_length_spot spot = after_optional BOOLEAN (inside spot)
+path_length_spot spot = after_optional boolean_tag (inside spot)
 
 unfoldable pub basic_constraints_fault : Spot → Option Fault
 basic_constraints_fault spot = first_of (
-    part kind.Der SEQUENCE spot
+    part kind.Der sequence_tag spot
     ∷ flag_fault (inside spot)
     ∷ path_length_fault (path_length_spot spot)
-    ∷ end kind.Der (after_optional INTEGER (path_length_spot spot))
+    ∷ end kind.Der (after_optional integer_tag (path_length_spot spot))
     ∷ end kind.Der (after spot)
     ∷ [])
 
 unfoldable pub key_usage_fault : Spot → Option Fault
-key_usage_fault spot = first_of (part kind.Der BIT_STRING spot ∷ typed is_bits spot ∷ end kind.Der (after spot) ∷ [])
+key_usage_fault spot =
+    first_of (part kind.Der bit_string_tag spot ∷ typed is_bits spot ∷ end kind.Der (after spot) ∷ [])
 
 unfoldable pub key_identifier_fault : Spot → Option Fault
-key_identifier_fault spot = first_of (part kind.Der OCTET_STRING spot ∷ end kind.Der (after spot) ∷ [])
+key_identifier_fault spot = first_of (part kind.Der octet_string_tag spot ∷ end kind.Der (after spot) ∷ [])
 
 -- only these three are looked into
 unfoldable pub value_fault : List ℕ → Spot → Option Fault
 value_fault identifier spot =
-    if bytes_eq identifier BASIC_CONSTRAINTS then basic_constraints_fault spot
-    else if bytes_eq identifier KEY_USAGE then key_usage_fault spot
-    else if bytes_eq identifier SUBJECT_KEY_IDENTIFIER then key_identifier_fault spot else None
+    if bytes_eq identifier basic_constraints_oid then basic_constraints_fault spot
+    else if bytes_eq identifier key_usage_oid then key_usage_fault spot
+    else if bytes_eq identifier subject_key_identifier_oid then key_identifier_fault spot else None
 
 -- ---- extensions
 
@@ -156,7 +157,7 @@ flag_spot spot = after (inside spot)
 
 -- the OCTET STRING of its value
 unfoldable pub value_spot : Spot → Spot
-value_spot spot = after_optional BOOLEAN (flag_spot spot)
+value_spot spot = after_optional boolean_tag (flag_spot spot)
 
 -- one of the extensions at these spots has the identifier
 unfoldable pub stands_among : List Spot → List ℕ → Bool
@@ -166,13 +167,13 @@ stands_among spots identifier = list_any (λ spot. bytes_eq (identifier_at spot)
 -- twice by its identifier, and whether it is critical and not known by its flag.
 unfoldable pub extension_fault : List Spot → Spot → Option Fault
 extension_fault earlier spot = first_of (
-    part kind.Der SEQUENCE spot
+    part kind.Der sequence_tag spot
     ∷ rule (nat_lt (length earlier) most_extensions) kind.Extension spot
-    ∷ part kind.Der OBJECT_IDENTIFIER (inside spot)
+    ∷ part kind.Der object_identifier_tag (inside spot)
     ∷ rule (not (stands_among earlier (identifier_at spot))) kind.Extension spot
     ∷ flag_fault (flag_spot spot)
     ∷ rule (not (flag_at (flag_spot spot)) || is_known (identifier_at spot)) kind.Extension spot
-    ∷ part kind.Der OCTET_STRING (value_spot spot)
+    ∷ part kind.Der octet_string_tag (value_spot spot)
     ∷ end kind.Der (after (value_spot spot))
     ∷ value_fault (identifier_at spot) (inside (value_spot spot))
     ∷ [])
@@ -185,9 +186,9 @@ each_fault earlier (spot ∷ later) =
 
 -- `[3]` and its SEQUENCE of extensions
 unfoldable pub extensions_fault : Spot → Option Fault
-extensions_fault spot = if_next EXTENSIONS spot (
+extensions_fault spot = if_next extensions_tag spot (
     no_item kind.Der spot
-    ∷ part kind.Der SEQUENCE (inside spot)
+    ∷ part kind.Der sequence_tag (inside spot)
     ∷ each_fault [] (spots_from (inside (inside spot)))
     ∷ end kind.Der (after (inside spot))
     ∷ [])
@@ -214,10 +215,10 @@ abbrev pub issuer_id_spot : Spot → Spot
 issuer_id_spot first = after (key_spot first)
 
 abbrev pub subject_id_spot : Spot → Spot
-subject_id_spot first = after_optional ISSUER_UNIQUE_ID (issuer_id_spot first)
+subject_id_spot first = after_optional issuer_unique_id_tag (issuer_id_spot first)
 
 abbrev pub extensions_spot : Spot → Spot
-extensions_spot first = after_optional SUBJECT_UNIQUE_ID (subject_id_spot first)
+extensions_spot first = after_optional subject_unique_id_tag (subject_id_spot first)
 
 -- the parts of TBSCertificate
 unfoldable pub tbs_parts_fault : Spot → Option Fault
@@ -225,21 +226,21 @@ tbs_parts_fault first = first_of (
     version_fault first
     ∷ integer_fault (serial_spot first)
     ∷ algorithm_fault (after (serial_spot first))
-    ∷ part kind.Der SEQUENCE (issuer_spot first)
+    ∷ part kind.Der sequence_tag (issuer_spot first)
     ∷ validity_fault (validity_spot first)
-    ∷ part kind.Der SEQUENCE (subject_spot first)
+    ∷ part kind.Der sequence_tag (subject_spot first)
     ∷ key_fault (key_spot first)
-    ∷ unique_id_fault ISSUER_UNIQUE_ID (issuer_id_spot first)
-    ∷ unique_id_fault SUBJECT_UNIQUE_ID (subject_id_spot first)
+    ∷ unique_id_fault issuer_unique_id_tag (issuer_id_spot first)
+    ∷ unique_id_fault subject_unique_id_tag (subject_id_spot first)
     ∷ extensions_fault (extensions_spot first)
-    ∷ end kind.Der (after_optional EXTENSIONS (extensions_spot first))
+    ∷ end kind.Der (after_optional extensions_tag (extensions_spot first))
     ∷ [])
 
 -- Certificate, with nothing behind it
 unfoldable pub cert_fault : List ℕ → Option Fault
 cert_fault bytes = first_of (
-    part kind.Der SEQUENCE (front bytes)
-    ∷ part kind.Der SEQUENCE (inside (front bytes))
+    part kind.Der sequence_tag (front bytes)
+    ∷ part kind.Der sequence_tag (inside (front bytes))
     ∷ tbs_parts_fault (inside (inside (front bytes)))
     ∷ algorithm_fault (after (inside (front bytes)))
     ∷ octets_fault kind.Der (after (after (inside (front bytes))))

@@ -4,18 +4,18 @@ use Rattle.std.specs.List.{AllByRecursion, find}
 use Rattle.sz_der.specs.Content.{HoldsBits}
 use Rattle.sz_der.specs.Der.{number_of}
 use Rattle.sz_der.specs.Spots.{after, content_at, front, inside, is_at_end, is_next, Spot, spots_from, tag_at, whole_at}
-use Rattle.sz_der.specs.declared.tag.TheConstants.{INTEGER, OBJECT_IDENTIFIER, SEQUENCE}
+use Rattle.sz_der.specs.Tags.{integer_tag, object_identifier_tag, sequence_tag}
 use Rattle.sz_x509.specs.CertFault.{bits_of_key, extensions_spot, flag_at, identifier_at, issuer_spot, key_in, key_spot, octets_at, part, path_length_spot, serial_spot, subject_spot, validity_spot, value_spot}
 use Rattle.sz_x509.specs.Certificate.{Certificate}
 use Rattle.sz_x509.specs.Contents.{seconds_in}
 use Rattle.sz_x509.specs.Extensions.{Restrictions}
 use Rattle.sz_x509.specs.declared.fault.CertKind.TheVariants.{Der}
-use Rattle.sz_x509.specs.declared.identifier.TheConstants.{BASIC_CONSTRAINTS, KEY_USAGE, SUBJECT_KEY_IDENTIFIER}
-use Rattle.sz_x509.specs.declared.tag.TheConstants.{EXTENSIONS}
+use Rattle.sz_x509.specs.Identifiers.{basic_constraints_oid, key_usage_oid, subject_key_identifier_oid}
+use Rattle.sz_x509.specs.Tags.{extensions_tag}
 
 -- the spots of the extensions, where there are any
 unfoldable pub extension_spots : Spot → List Spot
-extension_spots field = if is_next EXTENSIONS field then spots_from (inside (inside field)) else []
+extension_spots field = if is_next extensions_tag field then spots_from (inside (inside field)) else []
 
 -- the extension at this spot has the identifier
 abbrev pub has_identifier : List ℕ → Spot → Bool
@@ -30,7 +30,7 @@ ca_at None = false
 ca_at (Some value) = flag_at (inside value)
 
 unfoldable pub path_length_at : Spot → Option ℕ
-path_length_at spot = if is_next INTEGER spot then Some (number_of (content_at spot)) else None
+path_length_at spot = if is_next integer_tag spot then Some (number_of (content_at spot)) else None
 
 abbrev pub path_len_at : Option Spot → Option ℕ
 path_len_at None = None
@@ -46,10 +46,10 @@ key_id_at (Some value) = Some (content_at value)
 
 -- what the extensions at these spots restrict a certificate to
 pub record RestrictedAt (spots : List Spot) (restrictions : Restrictions) : Type 0 where
-  pub ca : restrictions.ca ≡ ca_at (value_among BASIC_CONSTRAINTS spots)
-  pub path_len : restrictions.path_len ≡ path_len_at (value_among BASIC_CONSTRAINTS spots)
-  pub usage : UsageAt (value_among KEY_USAGE spots) restrictions.usage
-  pub key_id : restrictions.key_id ≡ key_id_at (value_among SUBJECT_KEY_IDENTIFIER spots)
+  pub ca : restrictions.ca ≡ ca_at (value_among basic_constraints_oid spots)
+  pub path_len : restrictions.path_len ≡ path_len_at (value_among basic_constraints_oid spots)
+  pub usage : UsageAt (value_among key_usage_oid spots) restrictions.usage
+  pub key_id : restrictions.key_id ≡ key_id_at (value_among subject_key_identifier_oid spots)
 
 -- the earlier spots are those of the items from one spot up to another, each after the one before it
 abbrev pub AreBetween : Spot → List Spot → Spot → Type 0
@@ -59,8 +59,8 @@ AreBetween first (spot ∷ spots) here =
 
 -- an extension begins there, with its identifier
 pub record BeginsExtension (spot : Spot) : Type 0 where
-  pub sequence : part Der SEQUENCE spot ≡ None
-  pub identifier : part Der OBJECT_IDENTIFIER (inside spot) ≡ None
+  pub sequence : part Der sequence_tag spot ≡ None
+  pub identifier : part Der object_identifier_tag (inside spot) ≡ None
 
 -- extensions begin at the earlier spots, which lead from the first one here
 pub record LeadHere (first : Spot) (earlier : List Spot) (here : Spot) : Type 0 where
@@ -69,11 +69,12 @@ pub record LeadHere (first : Spot) (earlier : List Spot) (here : Spot) : Type 0 
 
 -- what the value of an extension with this identifier adds to the restrictions so far
 pub record Adds (identifier : List ℕ) (value : Spot) (old new : Restrictions) : Type 0 where
-  pub ca : new.ca ≡ (if bytes_eq identifier BASIC_CONSTRAINTS then flag_at (inside value) else old.ca)
+  pub ca : new.ca ≡ (if bytes_eq identifier basic_constraints_oid then flag_at (inside value) else old.ca)
   pub path_len : new.path_len
-      ≡ (if bytes_eq identifier BASIC_CONSTRAINTS then path_length_at (path_length_spot value) else old.path_len)
-  pub usage : MatchBool (bytes_eq identifier KEY_USAGE) (UsageAt (Some value) new.usage) (new.usage ≡ old.usage)
-  pub key_id : new.key_id ≡ (if bytes_eq identifier SUBJECT_KEY_IDENTIFIER then Some (content_at value) else old.key_id)
+      ≡ (if bytes_eq identifier basic_constraints_oid then path_length_at (path_length_spot value) else old.path_len)
+  pub usage : MatchBool (bytes_eq identifier key_usage_oid) (UsageAt (Some value) new.usage) (new.usage ≡ old.usage)
+  pub key_id : new.key_id
+      ≡ (if bytes_eq identifier subject_key_identifier_oid then Some (content_at value) else old.key_id)
 
 -- the time that the item at the spot names
 unfoldable pub seconds_at : Spot → ℤ

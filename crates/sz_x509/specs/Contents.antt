@@ -4,7 +4,7 @@ use Rattle.sz_calendar.specs.CivilTime.{CivilTime, unix_seconds}
 use Rattle.sz_calendar.specs.Gregorian.{month_lengths}
 use Rattle.sz_der.specs.Der.{number_of}
 use Rattle.sz_der.specs.Time.{utc_text, generalized_text}
-use Rattle.sz_der.specs.declared.tag.TheConstants.{GENERALIZED_TIME, UTC_TIME}
+use Rattle.sz_der.specs.Tags.{generalized_time_tag, utc_time_tag}
 
 -- ---- BOOLEAN, INTEGER of 32 bits and BIT STRING (X.690 sections 8.2, 8.3 and 8.6)
 
@@ -81,12 +81,12 @@ is_generalized_time text =
 
 -- the time that an item of either type names
 abbrev pub time_in : ℕ → List ℕ → CivilTime
-time_in tag text = if tag == UTC_TIME then utc_time_in text else generalized_time_in text
+time_in tag text = if tag == utc_time_tag then utc_time_in text else generalized_time_in text
 
 -- the item is a time
 abbrev pub is_time : ℕ → List ℕ → Bool
 is_time tag text =
-    (tag == UTC_TIME && is_utc_time text) || (tag == GENERALIZED_TIME && is_generalized_time text)
+    (tag == utc_time_tag && is_utc_time text) || (tag == generalized_time_tag && is_generalized_time text)
 
 -- in seconds since 1970
 abbrev pub seconds_in : ℕ → List ℕ → ℤ

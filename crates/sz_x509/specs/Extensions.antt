@@ -5,9 +5,9 @@ use Rattle.sz_der.specs.Content.{IsBoolean, HoldsBits}
 use Rattle.sz_der.specs.Der.{Der}
 use Rattle.sz_der.specs.Integer.{IsIntegerOf}
 use Rattle.sz_der.specs.Spots.{AreEach}
-use Rattle.sz_der.specs.declared.tag.TheConstants.{BIT_STRING, BOOLEAN, INTEGER, OBJECT_IDENTIFIER, OCTET_STRING, SEQUENCE}
-use Rattle.sz_x509.specs.declared.identifier.TheConstants.{AUTHORITY_KEY_IDENTIFIER, BASIC_CONSTRAINTS, CERTIFICATE_POLICIES, EXTENDED_KEY_USAGE, KEY_USAGE, SUBJECT_ALT_NAME, SUBJECT_KEY_IDENTIFIER}
-use Rattle.sz_x509.specs.declared.tag.TheConstants.{EXTENSIONS}
+use Rattle.sz_der.specs.Tags.{bit_string_tag, boolean_tag, integer_tag, object_identifier_tag, octet_string_tag, sequence_tag}
+use Rattle.sz_x509.specs.Identifiers.{authority_key_identifier_oid, basic_constraints_oid, certificate_policies_oid, extended_key_usage_oid, key_usage_oid, subject_alt_name_oid, subject_key_identifier_oid}
+use Rattle.sz_x509.specs.Tags.{extensions_tag}
 
 -- an extension: the octets of its identifier, whether it is critical, and the octets of its value
 pub record Extension : Type 0 where
@@ -18,17 +18,17 @@ pub record Extension : Type 0 where
 -- BOOLEAN DEFAULT FALSE, which is read where it is spelled out too
 abbrev pub IsFlag : Bool → List ℕ → Type 0
 IsFlag flag bytes =
-    ((bytes ≡ []) × (flag ≡ false)) ⊎ ((content : List ℕ) × IsBoolean flag content × Der BOOLEAN content bytes)
+    ((bytes ≡ []) × (flag ≡ false)) ⊎ ((content : List ℕ) × IsBoolean flag content × Der boolean_tag content bytes)
 
 -- Extension (4.1)
 pub record IsExtension (extension : Extension) (bytes : List ℕ) : Type 0 where
   pub identifier : List ℕ
   pub flag : List ℕ
   pub value : List ℕ
-  pub is_identifier : Der OBJECT_IDENTIFIER extension.identifier identifier
+  pub is_identifier : Der object_identifier_tag extension.identifier identifier
   pub is_flag : IsFlag extension.critical flag
-  pub is_value : Der OCTET_STRING extension.value value
-  pub is_sequence : Der SEQUENCE (identifier ++ (flag ++ value)) bytes
+  pub is_value : Der octet_string_tag extension.value value
+  pub is_sequence : Der sequence_tag (identifier ++ (flag ++ value)) bytes
 
 -- extensions one after another
 abbrev pub AreExtensions : List Extension → List ℕ → Type 0
@@ -39,7 +39,7 @@ abbrev pub AreInField : List Extension → List ℕ → Type 0
 AreInField extensions bytes =
     ((bytes ≡ []) × (extensions ≡ []))
     ⊎ ((content : List ℕ) × (sequence : List ℕ) × AreExtensions extensions content
-    × Der SEQUENCE content sequence × Der EXTENSIONS sequence bytes)
+    × Der sequence_tag content sequence × Der extensions_tag sequence bytes)
 
 -- ---- what extensions say together
 
@@ -56,8 +56,8 @@ AreDistinct (extension ∷ extensions) =
 -- the extensions that are known (4.2.1); the last four restrict nothing here
 abbrev pub known : List (List ℕ)
 known =
-    BASIC_CONSTRAINTS ∷ KEY_USAGE ∷ SUBJECT_KEY_IDENTIFIER ∷ AUTHORITY_KEY_IDENTIFIER ∷ EXTENDED_KEY_USAGE
-    ∷ SUBJECT_ALT_NAME ∷ CERTIFICATE_POLICIES ∷ []
+    basic_constraints_oid ∷ key_usage_oid ∷ subject_key_identifier_oid ∷ authority_key_identifier_oid
+    ∷ extended_key_usage_oid ∷ subject_alt_name_oid ∷ certificate_policies_oid ∷ []
 
 abbrev pub is_known : List ℕ → Bool
 is_known identifier = list_any (bytes_eq identifier) known
@@ -75,7 +75,7 @@ value_of identifier extensions =
 abbrev pub IsPathLength : Option ℕ → List ℕ → Type 0
 IsPathLength None bytes = bytes ≡ []
 IsPathLength (Some n) bytes =
-    (n < 2 ^ 32) × ((content : List ℕ) × IsIntegerOf (pos n) content × Der INTEGER content bytes)
+    (n < 2 ^ 32) × ((content : List ℕ) × IsIntegerOf (pos n) content × Der integer_tag content bytes)
 
 -- BasicConstraints (4.2.1.9)
 pub record IsBasicConstraints (ca : Bool) (path_len : Option ℕ) (bytes : List ℕ) : Type 0 where
@@ -83,14 +83,14 @@ pub record IsBasicConstraints (ca : Bool) (path_len : Option ℕ) (bytes : List 
   pub path : List ℕ
   pub is_flag : IsFlag ca flag
   pub is_path : IsPathLength path_len path
-  pub is_sequence : Der SEQUENCE (flag ++ path) bytes
+  pub is_sequence : Der sequence_tag (flag ++ path) bytes
 
 -- KeyUsage (4.2.1.3), a BIT STRING of named bits: bit k has the value 2^k, and bits past the sixteenth are passed over
 pub record IsKeyUsage (usage : ℕ) (bytes : List ℕ) : Type 0 where
   pub content : List ℕ
   pub of_16_bits : usage < 2 ^ 16
   pub holds_bits : HoldsBits content usage
-  pub is_item : Der BIT_STRING content bytes
+  pub is_item : Der bit_string_tag content bytes
 
 -- what a certificate is restricted to; without basicConstraints it is that of no authority (4.2.1.9)
 pub record Restrictions : Type 0 where
@@ -110,7 +110,7 @@ HasKeyUsage (Some value) usage = (bits : ℕ) × (usage ≡ Some bits) × IsKeyU
 -- SubjectKeyIdentifier (4.2.1.2), an OCTET STRING
 abbrev pub HasKeyIdentifier : Option (List ℕ) → Option (List ℕ) → Type 0
 HasKeyIdentifier None key_id = key_id ≡ None
-HasKeyIdentifier (Some value) key_id = (octets : List ℕ) × (key_id ≡ Some octets) × Der OCTET_STRING octets value
+HasKeyIdentifier (Some value) key_id = (octets : List ℕ) × (key_id ≡ Some octets) × Der octet_string_tag octets value
 
 -- the extensions are few, distinct and understood, and restrict a certificate to this
 pub record Restrict (extensions : List Extension) (restrictions : Restrictions) : Type 0 where
@@ -118,9 +118,9 @@ pub record Restrict (extensions : List Extension) (restrictions : Restrictions) 
   pub distinct : AreDistinct extensions
   pub understood : AllByRecursion IsUnderstood extensions
   pub basic_constraints :
-      HasBasicConstraints (value_of BASIC_CONSTRAINTS extensions) restrictions.ca restrictions.path_len
-  pub key_usage : HasKeyUsage (value_of KEY_USAGE extensions) restrictions.usage
-  pub key_identifier : HasKeyIdentifier (value_of SUBJECT_KEY_IDENTIFIER extensions) restrictions.key_id
+      HasBasicConstraints (value_of basic_constraints_oid extensions) restrictions.ca restrictions.path_len
+  pub key_usage : HasKeyUsage (value_of key_usage_oid extensions) restrictions.usage
+  pub key_identifier : HasKeyIdentifier (value_of subject_key_identifier_oid extensions) restrictions.key_id
 
 -- the bytes are the field of extensions that restrict a certificate to this
 pub record HasExtensions (restrictions : Restrictions) (bytes : List ℕ) : Type 0 where

@@ -1,3 +1,5 @@
+pub mod Identifiers
+pub mod Tags
 pub mod Certificate
 pub mod Extensions
 pub mod Contents

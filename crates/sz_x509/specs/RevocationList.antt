@@ -3,7 +3,7 @@ use Rattle.std.specs.Prelude.{◌≡◌, ◌⊎◌, ℕ, ℤ, Bool, false, List,
 use Rattle.std.specs.List.{list_any}
 use Rattle.sz_der.specs.Der.{Der}
 use Rattle.sz_der.specs.Spots.{AreEach}
-use Rattle.sz_der.specs.declared.tag.TheConstants.{CONTEXT_CONSTRUCTED, INTEGER, SEQUENCE}
+use Rattle.sz_der.specs.Tags.{context_constructed, integer_tag, sequence_tag}
 use Rattle.sz_x509.specs.Certificate.{IsHssAlgorithm, IsName, IsSerial, IsSignature, IsTime}
 use Rattle.sz_x509.specs.Extensions.{Extension, IsExtension}
 
@@ -20,7 +20,7 @@ pub record RevocationList : Type 0 where
 
 -- Version (5.1.2.1), the INTEGER 1, which is version 2, or nothing
 abbrev pub IsListVersion : List ℕ → Type 0
-IsListVersion bytes = (bytes ≡ []) ⊎ Der INTEGER (1 ∷ []) bytes
+IsListVersion bytes = (bytes ≡ []) ⊎ Der integer_tag (1 ∷ []) bytes
 
 -- nextUpdate (5.1.2.5), which need not be there
 abbrev pub IsNextUpdate : Option ℤ → List ℕ → Type 0
@@ -36,7 +36,7 @@ pub record ArePassedOver (bytes : List ℕ) : Type 0 where
   pub extensions : List Extension
   pub content : List ℕ
   pub are_extensions : AreEach IsPassedOver extensions content
-  pub is_sequence : Der SEQUENCE content bytes
+  pub is_sequence : Der sequence_tag content bytes
 
 -- extensions of an entry, which need not be there
 abbrev pub HasEntryExtensions : List ℕ → Type 0
@@ -51,7 +51,7 @@ pub record IsEntry (serial bytes : List ℕ) : Type 0 where
   pub is_number : IsSerial serial number
   pub is_date : IsTime seconds date
   pub has_extensions : HasEntryExtensions extensions
-  pub is_sequence : Der SEQUENCE (number ++ (date ++ extensions)) bytes
+  pub is_sequence : Der sequence_tag (number ++ (date ++ extensions)) bytes
 
 -- the bytes are entries one after another, with these serial numbers
 abbrev pub AreEntries : List (List ℕ) → List ℕ → Type 0
@@ -61,12 +61,12 @@ AreEntries serials bytes = AreEach IsEntry serials bytes
 abbrev pub IsRevoked : List ℕ → List ℕ → Type 0
 IsRevoked entries bytes =
     ((bytes ≡ []) × (entries ≡ []))
-    ⊎ ((serials : List (List ℕ)) × AreEntries serials entries × Der SEQUENCE entries bytes)
+    ⊎ ((serials : List (List ℕ)) × AreEntries serials entries × Der sequence_tag entries bytes)
 
 -- crlExtensions (5.1.2.7), `[0]` and a SEQUENCE of extensions, which need not be there
 abbrev pub HasListExtensions : List ℕ → Type 0
 HasListExtensions bytes =
-    (bytes ≡ []) ⊎ ((sequence : List ℕ) × ArePassedOver sequence × Der CONTEXT_CONSTRUCTED sequence bytes)
+    (bytes ≡ []) ⊎ ((sequence : List ℕ) × ArePassedOver sequence × Der context_constructed sequence bytes)
 
 -- TBSCertList (5.1.2)
 pub record IsTbsList (fields : RevocationList) (bytes : List ℕ) : Type 0 where
@@ -83,7 +83,7 @@ pub record IsTbsList (fields : RevocationList) (bytes : List ℕ) : Type 0 where
   pub is_next_update : IsNextUpdate fields.next_update next_update
   pub is_revoked : IsRevoked fields.entries revoked
   pub has_extensions : HasListExtensions extensions
-  pub is_sequence : Der SEQUENCE (version ++ (algorithm ++ (fields.issuer ++ (this_update ++ (next_update
+  pub is_sequence : Der sequence_tag (version ++ (algorithm ++ (fields.issuer ++ (this_update ++ (next_update
       ++ (revoked ++ extensions)))))) bytes
 
 -- CertificateList (5.1): the bytes are these parts and nothing else.
@@ -94,7 +94,7 @@ pub record CrlOf (bytes : List ℕ) (fields : RevocationList) : Type 0 where
   pub is_tbs : IsTbsList fields fields.tbs
   pub is_algorithm : IsHssAlgorithm algorithm
   pub is_signature : IsSignature fields.signature bits
-  pub is_sequence : Der SEQUENCE (fields.tbs ++ (algorithm ++ bits)) bytes
+  pub is_sequence : Der sequence_tag (fields.tbs ++ (algorithm ++ bits)) bytes
 
 -- one of the entries has the serial number
 abbrev pub is_listed : List ℕ → List (List ℕ) → Bool

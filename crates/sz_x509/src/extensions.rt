@@ -94,7 +94,8 @@ fn take_extension<'a>(
     ensures next { OnOk result (spot_of reader.new ≡ after (spot_of reader.old)) }
     ensures shorter { OnOk result (length reader.new.left.now < length reader.old.left.now) }
     ensures fault { (earlier : List Spot) → LeadHere (spot_of all.now) earlier (spot_of reader.old)
-        → length earlier ≡ before → IfErr result (λ fault. extension_fault earlier (spot_of reader.old) ≡ Some (at fault)) }
+        → length earlier ≡ before
+        → IfErr result (λ fault. extension_fault earlier (spot_of reader.old) ≡ Some (at fault)) }
 {
     let here = *reader;
     let extension = take_part(reader, SEQUENCE, CertKind::Der)?;

@@ -93,10 +93,10 @@ fn a_full_answer_ends(rt: HostRuntime) -> Result<(), Fail> {
     Ok(())
 }
 
-// How many bytes a receive moves and how many are taken at most, and how many receives there are until the connection is
-// over, by a clock that goes 12 seconds forward at each look. A receive looks at it twice, the second time 24, 48 and 72
-// seconds after the connection began. It lasts 60 seconds, 76 where it moved 16 KiB, and no more than 72 where 12 times
-// 64 KiB are taken.
+// How many bytes a receive moves and how many are taken at most, and how many receives there are until the connection
+// is over, by a clock that goes 12 seconds forward at each look. A receive looks at it twice, the second time 24, 48
+// and 72 seconds after the connection began. It lasts 60 seconds, 76 where it moved 16 KiB, and no more than 72 where
+// 12 times 64 KiB are taken.
 static LASTS: [(usize, u64, usize); 6] = [
     (1, MOST, 2),
     (8_192, MOST, 3),

@@ -3,8 +3,7 @@
 use crate::texts::behind_head;
 use std::alloc::Global;
 use std::test::Fail;
-use sz_body::{Framing, FramingFault, asks_to_close};
-use sz_head::{HeadReading, Kind};
+use sz_http::{Framing, FramingFault, HeadReading, Kind, asks_to_close};
 
 // heads, and how the body behind them is framed that may have 100 bytes
 const FRAMINGS: &[(Kind, &[u8], Result<Framing, FramingFault>)] = &[

@@ -3,7 +3,7 @@
 use crate::texts::repeated;
 use std::alloc::Global;
 use std::test::Fail;
-use sz_chunked::{ChunkFault, ChunkedBody};
+use sz_http::{ChunkFault, ChunkedBody};
 
 const BODY: &[u8] = b"3\r\nabc\r\n00A;x=\"1\"\r\n0123456789\r\n0;last\r\nDigest: x\r\n\r\n";
 

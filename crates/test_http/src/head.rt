@@ -4,7 +4,7 @@ use crate::texts::repeated;
 use std::alloc::Global;
 use std::test::Fail;
 use sz_base::OutOfMemory;
-use sz_head::{Head, HeadReading, Kind, MOST_BYTES, NoHead, Progress};
+use sz_http::{Head, HeadReading, Kind, MOST_BYTES, NoHead, Progress};
 
 const REQUEST: &[u8] =
     b"POST /restconf/operations/ietf-sztp-bootstrap-server:get-bootstrapping-data HTTP/1.1\r\n\

@@ -1,5 +1,5 @@
-//! These tests show, by rows of bytes and what they come to, how `sz_head`, `sz_body`, `sz_chunked`, `sz_http` and
-//! `sz_rest` read, refuse and write messages of HTTP.
+//! These tests show, by rows of bytes and what they come to, how `sz_http` and `sz_rest` read, refuse and write messages
+//! of HTTP.
 #![tactic(auto)]
 
 #[cfg(test)]

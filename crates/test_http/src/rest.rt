@@ -5,7 +5,7 @@ use crate::texts::{behind_head, repeated};
 use std::alloc::Global;
 use std::test::Fail;
 use sz_base::{Bytes, Evidence, OutOfMemory, Serial, Target};
-use sz_head::{HeadReading, Kind};
+use sz_http::{HeadReading, Kind};
 use sz_json::Name;
 use sz_rest::{
     AskFault, Asked, RestFault, read_reply, read_request, write_refusal, write_reply, write_request,

@@ -2,7 +2,7 @@
 
 use std::alloc::{AllocError, Global};
 use std::test::Fail;
-use sz_head::{HeadReading, Progress};
+use sz_http::{HeadReading, Progress};
 
 /// A text with so many copies of a part in its middle.
 pub(crate) fn repeated(

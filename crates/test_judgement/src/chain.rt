@@ -42,6 +42,12 @@ const SIGNS_NO_MESSAGES: Change = Change {
     ..SIGNS_NO_CERTS
 };
 
+// An authority's key usage without that for lists.
+const SIGNS_NO_LISTS: Change = Change {
+    to: 0b1000_0100,
+    ..SIGNS_NO_CERTS
+};
+
 const ROOT: CertTemplate = CertTemplate {
     not_before: Seconds(100),
     not_after: Seconds(1000),
@@ -136,7 +142,7 @@ const LOW_LIST: CrlTemplate = CrlTemplate {
     ..TOP_LIST
 };
 
-static TAKEN: [Case; 8] = [
+static TAKEN: [Case; 9] = [
     FOUND,
     // the issuer first
     Case {
@@ -187,9 +193,20 @@ static TAKEN: [Case; 8] = [
         lists: Some(&[TOP_LIST, LOW_LIST]),
         ..FOUND
     },
+    // a list that names no time of the next one
+    Case {
+        lists: Some(&[
+            CrlTemplate {
+                next_update: None,
+                ..TOP_LIST
+            },
+            LOW_LIST,
+        ]),
+        ..FOUND
+    },
 ];
 
-static REFUSED: [Case; 20] = [
+static REFUSED: [Case; 23] = [
     // no issuer
     Case {
         bag: &[OWNER, OWNER],
@@ -329,6 +346,40 @@ static REFUSED: [Case; 20] = [
         ]),
         ..REVOKED
     },
+    // a list of the next second
+    Case {
+        lists: Some(&[
+            CrlTemplate {
+                this_update: Seconds(501),
+                ..TOP_LIST
+            },
+            LOW_LIST,
+        ]),
+        ..REVOKED
+    },
+    // a list of another name
+    Case {
+        lists: Some(&[
+            CrlTemplate {
+                issuer: b'X',
+                ..TOP_LIST
+            },
+            LOW_LIST,
+        ]),
+        ..REVOKED
+    },
+    // an authority whose key signs no lists
+    Case {
+        bag: &[
+            OWNER,
+            CertTemplate {
+                change: Some(SIGNS_NO_LISTS),
+                ..MIDDLE
+            },
+        ],
+        lists: Some(&[TOP_LIST, LOW_LIST]),
+        ..REVOKED
+    },
     // a list by another key
     Case {
         lists: Some(&[CrlTemplate { by: 4, ..TOP_LIST }, LOW_LIST]),
@@ -450,6 +501,38 @@ fn chains_that_are_found(rt: HostRuntime) -> Result<(), Fail> {
 #[test]
 fn rules_that_alone_fail(rt: HostRuntime) -> Result<(), Fail> {
     assert!(rt; answers_all(&rt, rt.alloc(), &REFUSED)?);
+    Ok(())
+}
+
+// What is answered of the owner's message under these lists and, behind them, bytes that are no list.
+fn asked_beside_no_list<R: Threads + Sync>(
+    rt: &R,
+    alloc: Global,
+    keys: &mut Keys,
+    lists: &[CrlTemplate],
+) -> Result<Option<ChainFault>, Fail> {
+    let bag = keys.certs(rt, alloc, FOUND.bag)?;
+    let anchors = keys.certs(rt, alloc, &[ROOT])?;
+    let signer = keys.cert(rt, alloc, &OWNER)?;
+    let signature = keys.signature(rt, alloc, 3, CONTENT)?;
+    let mut lists = keys.crls(rt, alloc, lists)?;
+    lists.push(keys.cert(rt, alloc, &ROOT)?)?;
+    asked(
+        &bag,
+        &anchors,
+        Some(&lists),
+        &signer,
+        &signature,
+        Seconds(500),
+    )
+}
+
+#[test]
+fn a_list_that_does_not_read_counts_for_nothing(rt: HostRuntime) -> Result<(), Fail> {
+    let mut keys = Keys::create(&rt, rt.alloc(), LEVELS, 4)?;
+    let both = asked_beside_no_list(&rt, rt.alloc(), &mut keys, &[TOP_LIST, LOW_LIST])?;
+    let one = asked_beside_no_list(&rt, rt.alloc(), &mut keys, &[LOW_LIST])?;
+    assert!(rt; both.is_none() && one == REVOKED.fault);
     Ok(())
 }
 

@@ -131,19 +131,45 @@ const KEY: &[u8; 84] = b"\
     \x3c\xf1\x85\x12\xdc\x9e\xbc\x1e\x41\x09\x74\xd8\xf1\x0e\x3c\xac\
     \0\0\0\0\0\0\0\0\0\0\0\0\0\0\0\x20";
 
+// A disk with these bytes at its front, synced.
+fn disk_with(alloc: Global, front: &[u8]) -> Result<MemoryDisk, Fail> {
+    let mut disk = MemoryDisk::create(alloc, SIZE)?;
+    if disk.size() != SIZE || front.len() > 128 {
+        return Err("another size".into());
+    }
+    disk.write_at(0, front)?;
+    disk.sync()?;
+    Ok(disk)
+}
+
 // A disk with this key at its front, and with other bytes at a place, synced.
 fn disk_of(alloc: Global, place: usize, bytes: &[u8]) -> Result<MemoryDisk, Fail> {
     let mut front = *KEY;
     for (byte, other) in front.iter_mut().skip(place).zip(bytes) {
         *byte = *other;
     }
-    let mut disk = MemoryDisk::create(alloc, SIZE)?;
-    if disk.size() != SIZE {
-        return Err("another size".into());
-    }
-    disk.write_at(0, &front)?;
-    disk.sync()?;
-    Ok(disk)
+    disk_with(alloc, &front)
+}
+
+// The same of a stored key of two levels, 15/8 and 15/8, whose 2^30 leaf numbers are handed out. Its top tree takes
+// minutes to build.
+const EXHAUSTED: &[u8; 86] = b"\
+    \xA5\0\0\0\0\0\0\0\x01\0\0\0\x46\0\0\0\
+    \x01\x02\x0f\x08\x0f\x08\
+    \xbf\x4d\xd9\xc4\x46\x51\xf9\x07\x18\xe8\xa7\x3b\x12\x06\x4b\xd7\
+    \xf6\x98\x54\xff\xf4\xcd\xc9\x88\x4c\x0f\xb9\xf3\xc6\xae\x18\xc3\
+    \x3c\xf1\x85\x12\xdc\x9e\xbc\x1e\x41\x09\x74\xd8\xf1\x0e\x3c\xac\
+    \0\0\0\0\x40\0\0\0\0\0\0\0\x40\0\0\0";
+
+#[test]
+fn a_large_key_that_is_exhausted_is_told_at_once(rt: HostRuntime) -> Result<(), Fail> {
+    let mut disk = disk_with(rt.alloc(), EXHAUSTED)?;
+    let fault = SignFault::Exhausted {
+        next: 1 << 30,
+        end: 1 << 30,
+    };
+    assert!(rt; sign_one(&rt, rt.alloc(), &mut disk) == Err(fault));
+    Ok(())
 }
 
 // A place of the disk with other bytes there, and what is told then: a length over the capacity, wrong bytes of the

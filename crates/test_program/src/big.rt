@@ -158,7 +158,8 @@ fn device_folder(alloc: Global, anchor: &[u8]) -> Result<MemoryFolder, Fail> {
     Ok(folder(alloc, files, 0)?)
 }
 
-// whether a boot over a server that gives these replies in turn prints this text and ends with this status; and what stays
+// whether a boot over a server that gives these replies in turn prints this text and ends with this status; and what
+// stays
 fn boots<'a, R: Threads + Sync>(
     rt: &R,
     alloc: Global,

@@ -11,8 +11,8 @@ use sz_io::Files;
 
 const WORDS: &[&[u8]] = &[b"check", b"p", b"m", b"s"];
 
-// a site without disks, and with the public key under `p`, the message under `m` and the signature under `s`, whose folder
-// fails at this call
+// a site without disks, and with the public key under `p`, the message under `m` and the signature under `s`, whose
+// folder fails at this call
 fn site<'a>(
     alloc: Global,
     message: &'a [u8],

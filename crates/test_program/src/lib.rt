@@ -1,5 +1,5 @@
-//! Tests of the program as a whole, through its top call over an outside in memory: what is printed, the status, and what
-//! stays on disks and in files.
+//! Tests of the program as a whole, through its top call over an outside in memory: what is printed, the status, and
+//! what stays on disks and in files.
 #![tactic(auto)]
 
 #[cfg(test)]

@@ -1,7 +1,10 @@
-//! What the tests of a device's disk show: what it is made with, whatever cuts or fails its calls, and its audit.
+//! What the tests of a device and its disk show: its stored form, what it is made with, whatever cuts or fails its
+//! calls, and its audit.
 #![tactic(auto)]
 
 #[cfg(test)]
 mod audit;
+#[cfg(test)]
+mod record;
 #[cfg(test)]
 mod state;

@@ -1,4 +1,5 @@
-//! These tests show, by rows of an input and what it comes to, which texts and messages `sz_json`, `sz_artifacts`, `sz_uri`, `sz_dhcp`, `sz_dns` and `sz_source` read, refuse and write.
+//! These tests show, by rows of an input and what it comes to, which texts and messages `sz_json`, `sz_artifacts`,
+//! `sz_uri`, `sz_dhcp`, `sz_dns` and `sz_source` read, refuse and write.
 #![tactic(auto)]
 
 #[cfg(test)]

@@ -14,8 +14,8 @@ pub fn judged_vouchers_fit()
         → (judgement voucher serial when ≡ Ok tt) ↔ VouchesFor voucher serial when }
 {}
 
-/// A voucher with a nonce fits exactly where the moment has this nonce and the voucher would fit without one. At a moment
-/// with another nonce or none, the nonce is its fault, where the serial number isn't.
+/// A voucher with a nonce fits exactly where the moment has this nonce and the voucher would fit without one. At a
+/// moment with another nonce or none, the nonce is its fault, where the serial number isn't.
 pub fn nonces_have_their_moment()
     ensures exactly { (voucher : Voucher) (serial : List ℕ) (when : Moment) (nonce : List ℕ)
         → voucher.nonce ≡ Some nonce → VouchesFor voucher serial when

@@ -11,13 +11,13 @@ loop-bytes-preserved c =
     elim c.match-read.branch [
       | in-Ok w ↦
           let e = ap (λ v. v.items) w.lists-is ∙ w.push.ensures.items in (
-            list_one items i _ c.loop-bytes-test.true c.args.when.0 c.args.places.now c.loop-bytes.lists.items c.match-read.lists.items _ e
+            list_one items i _ c.loop-bytes-test.true c.args.when.0 c.args.places.now c.args.wanted c.loop-bytes.lists.items c.match-read.lists.items _ e
                 w.in-Ok.ensures.ok w.in-Ok.ensures.only w.list_issuers-issuers.ensures c.loop-bytes.invariant.0,
             one_longer _ _ _ i e c.loop-bytes.invariant.1,
           )
       | in_default w ↦
           let e = ap (λ v. v.items) w.lists-is in (
-            list_none items i _ c.loop-bytes-test.true c.args.when.0 c.args.places.now c.loop-bytes.lists.items c.match-read.lists.items e
+            list_none items i _ c.loop-bytes-test.true c.args.when.0 c.args.places.now c.args.wanted c.loop-bytes.lists.items c.match-read.lists.items e
                 w.in_default.ensures.only c.loop-bytes.invariant.0,
             omega (arith, ap length e, c.loop-bytes.invariant.1),
           )
@@ -25,6 +25,6 @@ loop-bytes-preserved c =
 
 pub returns : goal.returns
 returns c =
-    subst (λ (s : List (List ℕ)). AreLists c.args.when.0 s c.args.places.now c.loop-bytes.lists.items)
+    subst (λ (s : List (List ℕ)). AreLists c.args.when.0 s c.args.places.now c.args.wanted c.loop-bytes.lists.items)
     (all_strings c.as_slice-bytes-items.result.now c.loop-bytes.bytes-index c.args.crls.now c.as_slice-bytes-items.ensures.each c.loop-bytes-test.false)
     c.loop-bytes.invariant.0

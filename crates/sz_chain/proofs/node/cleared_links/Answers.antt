@@ -10,5 +10,6 @@ loop-at-preserved c = (
 )
 
 pub returns : goal.returns
-returns c = λ when crls linked are.
-    cleared_steps when crls c.args.places.now c.args.links.now c.loop-at.cleared.items c.args.lists.now (omega arith) linked are c.loop-at.invariant.1
+returns c = λ when crls wanted linked among are.
+    cleared_steps when crls c.args.places.now wanted c.args.links.now c.loop-at.cleared.items c.args.lists.now (omega arith) linked among are
+    c.loop-at.invariant.1

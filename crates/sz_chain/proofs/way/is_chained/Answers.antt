@@ -10,21 +10,21 @@ use Rattle.sz_chain.proofs.way.is_chained.Goals as goal
 pub cleared_links-cleared-requires-clause-read : goal.cleared_links-cleared-requires-clause-read
 cleared_links-cleared-requires-clause-read c =
     subst (λ (xs : List CurrentList). AreRead xs) (sym c.as_slice.ensures.value)
-    (lists_read c.args.when.0 c.args.places.now c.in-Some.crls.now c.current_lists-lists.result.items c.current_lists-lists.ensures)
+    (lists_read c.args.when.0 c.args.places.now c.in_one.result c.in-Some.crls.now c.current_lists-lists.result.items c.current_lists-lists.ensures)
 
 pub returns-in-None : goal.returns-in-None
 returns-in-None c =
     subst (λ (o : Option (Bor (List (List ℕ)))). (c.is_stepped.result ≡ true) ↔ IsChained (option_copied o) c.args.when.0 c.args.signers c.args.places.now)
     (sym c.in-None.is)
-    (c.is_stepped.ensures None (steps_of_links c.args.when.0 c.args.places.now c.args.links.now c.requires.linked))
+    (c.is_stepped.ensures None (steps_of_links c.args.when.0 c.args.places.now (record { bits = 0 }) c.args.links.now c.requires.linked))
 
 pub returns-in-Some : goal.returns-in-Some
 returns-in-Some c =
     let crls = c.in-Some.crls.now in
-    let lists = subst (λ (xs : List CurrentList). AreLists c.args.when.0 crls c.args.places.now xs) (sym c.as_slice.ensures.value)
+    let lists = subst (λ (xs : List CurrentList). AreLists c.args.when.0 crls c.args.places.now c.in_one.result xs) (sym c.as_slice.ensures.value)
     c.current_lists-lists.ensures in
     let steps = subst (λ (xs : List PlaceSet). AreSteps (Some crls) c.args.when.0 c.args.places.now xs) (sym c.as_slice-in-Some.ensures.value)
-    (c.cleared_links-cleared.ensures c.args.when.0 crls c.requires.linked lists) in
+    (c.cleared_links-cleared.ensures c.args.when.0 crls c.in_one.result c.requires.linked c.in_one.ensures lists) in
     let found = c.is_stepped-in-Some.result in
     subst (λ (o : Option (Bor (List (List ℕ)))). (found ≡ true) ↔ IsChained (option_copied o) c.args.when.0 c.args.signers c.args.places.now) (sym c.in-Some.is)
     (c.is_stepped-in-Some.ensures (Some crls) steps)

@@ -1,6 +1,6 @@
 use Rattle.std.proofs.Common.{◌≡◌, refl, sym, ap, ◌∙◌, List, [], ◌∷◌, ◌++◌, None, Some}
 use Rattle.sz_der.specs.Spots.{Spot, spot_of, tag_at}
-use Rattle.sz_der.specs.declared.tag.TheConstants.{SEQUENCE}
+use Rattle.sz_der.specs.Tags.{sequence_tag}
 use Rattle.sz_der.proofs.Steps.{at_end_is, exit, not_at_end}
 use Rattle.sz_cms.specs.MessageFault.{choice_fault, Fault, sequences_at}
 use Rattle.sz_cms.proofs.Walk.{walks_end, walks_fault, walks_start, walks_step}
@@ -43,7 +43,7 @@ loop-each-preserved g c =
     let now = spot_of c.loop-each.each in
     let more = not_at_end c.loop-each.each c.is_at_end.result c.is_at_end.ensures c.loop-each-test.true in
     let inv = c.loop-each.invariant in
-    let other : tag_at now ≡ SEQUENCE → ⊥ = λ e. c.if-item-eq-SEQUENCE.false (c.in_ok-item.ensures.item.tag ∙ e) in
+    let other : tag_at now ≡ sequence_tag → ⊥ = λ e. c.if-item-eq-SEQUENCE.false (c.in_ok-item.ensures.item.tag ∙ e) in
     let none : choice_fault g.row.MOST inv.0 now ≡ None = choice_other g.row.MOST inv.0 now c.in_ok-item.ensures.ok other in (
       inv.0 ++ now ∷ [],
       rw c.in_ok-item.ensures.next (walks_step (choice_fault g.row.MOST) start inv.0 now inv.1 more none),

@@ -1,6 +1,6 @@
 use Rattle.std.proofs.Common.{refl, ap, ◌∙◌}
 use Rattle.sz_der.specs.Spots.{after, after_optional, content_at, inside, Spot}
-use Rattle.sz_der.specs.declared.tag.TheConstants.{CONTEXT_CONSTRUCTED}
+use Rattle.sz_der.specs.Tags.{context_constructed}
 use Rattle.sz_der.proofs.Steps.{exit}
 use Rattle.sz_cms.specs.MessageFault.{crls_tag, signed_parts_fault}
 use Rattle.sz_cms.specs.Places.{choices_at, content_field_at, signed_from, signers_at}
@@ -124,13 +124,13 @@ returns-clause-signed c =
     let one = c.in_ok-take_integer.ensures.next in
     let two = c.in_ok-take_algorithms.ensures.next ∙ ap after one in
     let three = c.in_ok-identifier.ensures.next ∙ ap after two in
-    let four = c.in_ok-certs.ensures.next ∙ ap (after_optional CONTEXT_CONSTRUCTED) three in
+    let four = c.in_ok-certs.ensures.next ∙ ap (after_optional context_constructed) three in
     let five = c.in_ok-crls.ensures.next ∙ ap (after_optional crls_tag) four in
     same_signed _ _ _ _ _ _ _ _ _ _
     (kind_identifier c.of.result c.in_ok-identifier.identifier.now c.of.ensures ∙ c.in_ok-identifier.ensures.kind
     ∙ ap (λ (spot : Spot). content_at (inside spot)) two)
     (c.in_ok-identifier.ensures.content ∙ ap (λ (spot : Spot). content_field_at (after (inside spot))) two)
-    (c.in_ok-certs.ensures.kept ∙ ap (choices_at CONTEXT_CONSTRUCTED) three) (c.in_ok-crls.ensures.kept ∙ ap (choices_at crls_tag) four)
+    (c.in_ok-certs.ensures.kept ∙ ap (choices_at context_constructed) three) (c.in_ok-crls.ensures.kept ∙ ap (choices_at crls_tag) four)
     (c.in_ok-signers.ensures.signers ∙ ap signers_at five)
 
 pub returns-clause-named : goal.returns-clause-named

@@ -1,6 +1,6 @@
 use Rattle.std.proofs.Common.{refl, sym, ap, ◌∙◌, List, ℕ, Some}
 use Rattle.sz_der.specs.Spots.{spot_of}
-use Rattle.sz_der.specs.declared.tag.TheConstants.{CONTEXT_CONSTRUCTED}
+use Rattle.sz_der.specs.Tags.{context_constructed}
 use Rattle.sz_der.proofs.Optional.{after_next, after_other}
 use Rattle.sz_der.proofs.Steps.{exit}
 use Rattle.sz_cms.specs.MessageFault.{content_field_fault}
@@ -19,7 +19,7 @@ returns-then-not-is_next-clause-content c =
 
 pub returns-then-not-is_next-clause-next : goal.returns-then-not-is_next-clause-next
 returns-then-not-is_next-clause-next c =
-    sym (after_other CONTEXT_CONSTRUCTED (spot_of c.args.reader.now) (sym c.is_next.ensures ∙ c.if-not-is_next.true))
+    sym (after_other context_constructed (spot_of c.args.reader.now) (sym c.is_next.ensures ∙ c.if-not-is_next.true))
 
 pub returns-in_err-field-clause-fault : goal.returns-in_err-field-clause-fault
 unfolding content_field_fault
@@ -57,4 +57,4 @@ returns-clause-content c =
 
 pub returns-clause-next : goal.returns-clause-next
 returns-clause-next c =
-    c.in_ok-field.ensures.next ∙ sym (after_next CONTEXT_CONSTRUCTED (spot_of c.args.reader.now) (sym c.is_next.ensures ∙ c.if-not-is_next.false))
+    c.in_ok-field.ensures.next ∙ sym (after_next context_constructed (spot_of c.args.reader.now) (sym c.is_next.ensures ∙ c.if-not-is_next.false))

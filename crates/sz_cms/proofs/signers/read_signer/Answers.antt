@@ -1,6 +1,6 @@
 use Rattle.std.proofs.Common.{refl, ap, ◌∙◌}
 use Rattle.sz_der.specs.Spots.{after, after_optional, content_at}
-use Rattle.sz_der.specs.declared.tag.TheConstants.{CONTEXT_CONSTRUCTED}
+use Rattle.sz_der.specs.Tags.{context_constructed}
 use Rattle.sz_der.proofs.Steps.{exit}
 use Rattle.sz_cms.specs.MessageFault.{signer_parts_fault}
 use Rattle.sz_cms.specs.Places.{algorithm_at, attributes_at, identifier_at, signer_from}
@@ -148,7 +148,7 @@ returns-clause-signer c =
     let one = c.in_ok-take_integer.ensures.next in
     let two = c.in_ok-identifier.ensures.next ∙ ap after one in
     let three = c.in_ok-digest.ensures.next ∙ ap after two in
-    let four = c.in_ok-attributes.ensures.next ∙ ap (after_optional CONTEXT_CONSTRUCTED) three in
+    let four = c.in_ok-attributes.ensures.next ∙ ap (after_optional context_constructed) three in
     let five = c.in_ok-scheme.ensures.next ∙ ap after four in
     same_signer _ _ _ _ _ _ _ _ (c.in_ok-identifier.ensures.identifier ∙ ap identifier_at one)
     (c.signs_by_hss.ensures ∙ by_hss_is _ _ _ _ (c.in_ok-digest.ensures.algorithm ∙ ap algorithm_at two)

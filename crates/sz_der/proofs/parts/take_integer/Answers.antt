@@ -2,7 +2,7 @@ use Rattle.std.proofs.Common.{refl}
 use Rattle.std.proofs.lemmas.Bool.{false≢true}
 use Rattle.sz_der.specs.Integer.{is_integer}
 use Rattle.sz_der.specs.Spots.{no_integer, spot_of}
-use Rattle.sz_der.specs.declared.tag.TheConstants.{INTEGER}
+use Rattle.sz_der.specs.Tags.{integer_tag}
 use Rattle.sz_der.proofs.Steps.{exit, fails, found_is, part_tag, passes}
 use Rattle.sz_der.proofs.IntegerTest.{integer_test, IsInteger_from_test}
 use Rattle.sz_der.proofs.parts.take_integer.Goals as goal
@@ -26,7 +26,7 @@ returns-in-Err-clause-fault g c =
     let spot = spot_of c.args.reader.now in
     let item = c.in_ok-item.item in
     let is = c.in_ok-item.ensures.item in
-    let tag = part_tag _ _ INTEGER spot item c.in_ok-item.ensures.ok is in
+    let tag = part_tag _ _ integer_tag spot item c.in_ok-item.ensures.ok is in
     let test = fails is_integer spot item is
     (λ e. false≢true (c.in-Err.ensures.exact.1 (tag, IsInteger_from_test item.content.now e))) in
     let told = c.part_fault.ensures spot is in

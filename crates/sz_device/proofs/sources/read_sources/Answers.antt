@@ -15,7 +15,8 @@ loop-word-preserved c =
     let words = c.args.words.now in
     let word = c.word-item.result in
     let within : i < length words = search rules in
-    rw c.in_ok-push.ensures.ok (texts_more c.args.disk.now c.loop-word.sources words i _ word within c.word-item.is c.loop-word.invariant c.in_ok-read_beside.ensures.ok)
+    rw c.in_ok-push.ensures.ok
+    (texts_more c.args.disk.now c.loop-word.sources words i _ word within c.word-item.is c.loop-word.invariant c.in_ok-read_beside.ensures.ok)
 
 pub returns-in_err-read_beside-clause-unread : goal.returns-in_err-read_beside-clause-unread
 returns-in_err-read_beside-clause-unread c =

@@ -2,7 +2,7 @@ use Rattle.std.proofs.Common.{◌≡◌, ◌∙◌, ap, arith, length, length-dr
 use Rattle.std.proofs.lemmas.Result.{err_from_is_err_and}
 use Rattle.sz_dhcp.specs.DhcpOption.{DhcpOption}
 use Rattle.sz_dhcp.specs.Message4.{file_field, options_field, sname_field, values_of}
-use Rattle.sz_dhcp.specs.declared.message4.TheConstants.{FILE, SNAME, SZTP_REDIRECT}
+use Rattle.sz_dhcp.specs.Codes4.{overloads_file, overloads_sname, redirect_code}
 use Rattle.sz_dhcp.proofs.Fields.{fault_in_file, fault_in_options, fault_in_sname, field_is, three_fields}
 use Rattle.sz_dhcp.proofs.Options4.{one_field}
 use Rattle.sz_dhcp.proofs.message4.server_list.Goals as goal
@@ -35,7 +35,7 @@ returns-in_err-append_values-clause-refused c =
     let own = c.in_ok-overload.ensures.ok in
     let options = rw ok.1 at own.1 in
     let is : c.holding-file.result.bytes.now ≡ file_field own.0 c.args.message.now =
-    field_is FILE c.args.message.now c.holding-file.result.bytes.now c.as_slice.result.now own.0 108 236
+    field_is overloads_file c.args.message.now c.holding-file.result.bytes.now c.as_slice.result.now own.0 108 236
     (c.as_slice.ensures ∙ own.2) c.holding-file.ensures.bytes in
     let there = rw (is, c.holding-file.ensures.end) at c.in_err-append_values.ensures.refused in
     let p = err_from_is_err_and c.from_residual-in_err-append_values.result c.from_residual-in_err-append_values.ensures.1 in
@@ -48,10 +48,10 @@ returns-in_err-append_values-2-clause-refused c =
     let options = rw ok.1 at own.1 in
     let file = c.in_ok-append_values.ensures.ok in
     let file_is : c.holding-file.result.bytes.now ≡ file_field own.0 c.args.message.now =
-    field_is FILE c.args.message.now c.holding-file.result.bytes.now c.as_slice.result.now own.0 108 236
+    field_is overloads_file c.args.message.now c.holding-file.result.bytes.now c.as_slice.result.now own.0 108 236
     (c.as_slice.ensures ∙ own.2) c.holding-file.ensures.bytes in
     let is : c.holding-sname.result.bytes.now ≡ sname_field own.0 c.args.message.now =
-    field_is SNAME c.args.message.now c.holding-sname.result.bytes.now c.as_slice-2.result.now own.0 44 108
+    field_is overloads_sname c.args.message.now c.holding-sname.result.bytes.now c.as_slice-2.result.now own.0 44 108
     (c.as_slice-2.ensures ∙ own.2) c.holding-sname.ensures.bytes in
     let in_file = rw file_is at file.1 in
     let there = rw (is, c.holding-sname.ensures.end) at c.in_err-append_values-2.ensures.refused in
@@ -69,10 +69,10 @@ returns-clause-ok c =
     let again = rw ok.1 at list.1 in
     let same = one_field (options_field c.args.message.now) list.0 own.0 again options in
     let file_is : c.holding-file.result.bytes.now ≡ file_field own.0 c.args.message.now =
-    field_is FILE c.args.message.now c.holding-file.result.bytes.now c.as_slice.result.now own.0 108 236
+    field_is overloads_file c.args.message.now c.holding-file.result.bytes.now c.as_slice.result.now own.0 108 236
     (c.as_slice.ensures ∙ own.2) c.holding-file.ensures.bytes in
     let sname_is : c.holding-sname.result.bytes.now ≡ sname_field own.0 c.args.message.now =
-    field_is SNAME c.args.message.now c.holding-sname.result.bytes.now c.as_slice-2.result.now own.0 44 108
+    field_is overloads_sname c.args.message.now c.holding-sname.result.bytes.now c.as_slice-2.result.now own.0 44 108
     (c.as_slice-2.ensures ∙ own.2) c.holding-sname.ensures.bytes in
     let in_file = rw file_is at file.1 in
     let in_sname = rw sname_is at sname.1 in (
@@ -80,5 +80,5 @@ returns-clause-ok c =
       file.0,
       sname.0,
       record { cookie = ok.0; own = options; in_file = in_file; in_sname = in_sname },
-      three_fields SZTP_REDIRECT own.0 file.0 sname.0 _ _ _ (list.2 ∙ ap (λ (o : List DhcpOption). values_of SZTP_REDIRECT o) same) file.2 sname.2,
+      three_fields redirect_code own.0 file.0 sname.0 _ _ _ (list.2 ∙ ap (λ (o : List DhcpOption). values_of redirect_code o) same) file.2 sname.2,
     )

@@ -14,7 +14,8 @@ loop-uri-init g c =
       all =
           subst
           (λ (faults : List ImageFault).
-          RefusesAll c.args.hash.now (g.R.Room.held c.args.room.now).space [] faults (g.N.Net.faults net) (g.N.Net.faults net) (g.N.Net.traffic net) (g.N.Net.traffic net))
+          RefusesAll c.args.hash.now (g.R.Room.held c.args.room.now).space [] faults (g.N.Net.faults net) (g.N.Net.faults net) (g.N.Net.traffic net)
+          (g.N.Net.traffic net))
           (sym c.create-faults.ensures) (refuses_none c.args.hash.now (g.R.Room.held c.args.room.now).space (g.N.Net.faults net) (g.N.Net.traffic net));
       led = g.met.R.Room.led_same c.args.room.now;
       same = same_refl (g.R.Room.held c.args.room.now);

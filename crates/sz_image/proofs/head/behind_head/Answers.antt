@@ -7,7 +7,8 @@ use Rattle.sz_image.proofs.head.behind_head.Goals as goal
 
 pub returns-then-limit-space : goal.returns-then-limit-space
 returns-then-limit-space c hash bytes closed headed verdict = (
-  subst (λ (f : HttpFault). Verdict Reply c.args.space bytes closed (refused f)) (c.in-TooLarge.is ∙ ap (λ (most : ℕ). TooLarge most) c.if-limit-space.true) verdict,
+  subst (λ (f : HttpFault). Verdict Reply c.args.space bytes closed (refused f))
+      (c.in-TooLarge.is ∙ ap (λ (most : ℕ). TooLarge most) c.if-limit-space.true) verdict,
   refl,
   (c.args.framing, headed, c.told_size.ensures),
 )

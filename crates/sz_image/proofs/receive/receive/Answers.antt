@@ -28,7 +28,8 @@ pub returns-in_default-clause-refused : goal.returns-in_default-clause-refused
 returns-in_default-clause-refused g c uri hash before asked =
     let receiving = c.pieces.invariant.receiving in
     let failed : g.N.Net.traffic c.receive.new.self ≡ option_map after_refused_receive (g.N.Net.traffic c.pieces.net) = grind (arith, common_steps) in
-    loses_told uri.target (request_text uri) receiving.bytes before (g.N.Net.traffic c.pieces.net) (g.N.Net.traffic c.receive.new.self) (receiving.asking uri before asked) failed
+    loses_told uri.target (request_text uri) receiving.bytes before (g.N.Net.traffic c.pieces.net) (g.N.Net.traffic c.receive.new.self)
+    (receiving.asking uri before asked) failed
 
 pub returns-in-Ok-end-clause-ok : goal.returns-in-Ok-end-clause-ok
 returns-in-Ok-end-clause-ok g c uri before asked =
@@ -39,7 +40,8 @@ returns-in-Ok-end-clause-ok g c uri before asked =
     let some : 0 < length c.receive.new.into = grind (arith, common_steps) in
     received_told uri c.end.new.self first held receiving.bytes c.digest.result true before (g.N.Net.traffic c.receive.new.self)
     (c.in-Ok-end.ensures.ok first held receiving.bytes same receiving.coming) c.digest.ensures
-    (end_told uri.target (request_text uri) receiving.bytes c.receive.new.into c.in-Ok.count before (g.N.Net.traffic c.pieces.net) (g.N.Net.traffic c.receive.new.self) c.if-count-eq0.true some
+    (end_told uri.target (request_text uri) receiving.bytes c.receive.new.into c.in-Ok.count before (g.N.Net.traffic c.pieces.net)
+    (g.N.Net.traffic c.receive.new.self) c.if-count-eq0.true some
     (receiving.asking uri before asked) c.in-Ok.ensures.ok)
 
 pub returns-in-Err-clause-refused : goal.returns-in-Err-clause-refused
@@ -52,7 +54,8 @@ returns-in-Err-clause-refused g c uri hash before asked =
     let is : IsRefused c.space.result hash receiving.bytes true c.in-Err.fault = c.in-Err.ensures.refused first held hash receiving.bytes same receiving.coming in
     fails_told uri hash receiving.bytes first.space true c.in-Err.fault before (g.N.Net.traffic c.receive.new.self)
     (subst (λ (s : ℕ). IsRefused s hash receiving.bytes true c.in-Err.fault) (sym same) is)
-    (end_told uri.target (request_text uri) receiving.bytes c.receive.new.into c.in-Ok.count before (g.N.Net.traffic c.pieces.net) (g.N.Net.traffic c.receive.new.self) c.if-count-eq0.true some
+    (end_told uri.target (request_text uri) receiving.bytes c.receive.new.into c.in-Ok.count before (g.N.Net.traffic c.pieces.net)
+    (g.N.Net.traffic c.receive.new.self) c.if-count-eq0.true some
     (receiving.asking uri before asked) c.in-Ok.ensures.ok)
 
 pub returns-in-Err-clause-lost : goal.returns-in-Err-clause-lost
@@ -89,7 +92,8 @@ returns-in-Ok-true-clause-ok g c uri before asked =
     (c.in-Ok-true.ensures.ok first receiving.bytes receiving.coming) in
     received_told uri c.take.new.self first held (receiving.bytes ++ piece) c.digest-in-Ok-true.result false before (g.N.Net.traffic c.receive.new.self) come
     c.digest-in-Ok-true.ensures
-    (more_told uri.target (request_text uri) receiving.bytes c.receive.new.into piece c.in-Ok.count before (g.N.Net.traffic c.pieces.net) (g.N.Net.traffic c.receive.new.self) some refl
+    (more_told uri.target (request_text uri) receiving.bytes c.receive.new.into piece c.in-Ok.count before (g.N.Net.traffic c.pieces.net)
+    (g.N.Net.traffic c.receive.new.self) some refl
     (receiving.asking uri before asked) c.in-Ok.ensures.ok)
 
 pub returns-in-Err-take-clause-refused : goal.returns-in-Err-take-clause-refused
@@ -100,7 +104,8 @@ returns-in-Err-take-clause-refused g c uri hash before asked =
     let some : 0 < c.in-Ok.count = omega arith in
     stops_told uri hash (receiving.bytes ++ piece) first.space c.in-Err-take.fault before (g.N.Net.traffic c.receive.new.self)
     (c.in-Err-take.ensures.refused first hash receiving.bytes receiving.coming)
-    (more_told uri.target (request_text uri) receiving.bytes c.receive.new.into piece c.in-Ok.count before (g.N.Net.traffic c.pieces.net) (g.N.Net.traffic c.receive.new.self) some refl
+    (more_told uri.target (request_text uri) receiving.bytes c.receive.new.into piece c.in-Ok.count before (g.N.Net.traffic c.pieces.net)
+    (g.N.Net.traffic c.receive.new.self) some refl
     (receiving.asking uri before asked) c.in-Ok.ensures.ok)
 
 pub returns-in-Err-take-clause-lost : goal.returns-in-Err-take-clause-lost
@@ -125,7 +130,8 @@ pieces-preserved g c =
             subst (λ (whole : Bool). Comes whole c.take.new.self c.take.new.reading first (g.R.Room.held c.take.new.room) (receiving.bytes ++ piece))
             c.in-Ok-false.field-0-test (c.in-Ok-false.ensures.ok first receiving.bytes receiving.coming);
         asking = λ uri before asked.
-            more_told uri.target (request_text uri) receiving.bytes c.receive.new.into piece c.in-Ok.count before (g.N.Net.traffic c.pieces.net) (g.N.Net.traffic c.receive.new.self) some refl
+            more_told uri.target (request_text uri) receiving.bytes c.receive.new.into piece c.in-Ok.count before (g.N.Net.traffic c.pieces.net)
+            (g.N.Net.traffic c.receive.new.self) some refl
             (receiving.asking uri before asked) c.in-Ok.ensures.ok;
       };
       led = g.met.R.Room.led_on c.args.room.now c.pieces.room c.take.new.room c.pieces.invariant.led c.take.ensures.led.0;

@@ -13,7 +13,8 @@ returns-in-Ok-write g c =
     let after : EntropySeen = record { faults = g.E.Entropy.faults c.create.new.entropy; bytes = g.E.Entropy.bytes c.create.new.entropy } in
     let key = made.0 in
     let signer = c.in-Ok.signer in
-    let standing = is-standing c.args.levels.now key (seen c.args.disk.now) (seen c.create.new.disk) signer made.2 before after made.1 (c.in-Ok.ensures.size refl) in
+    let standing = is-standing c.args.levels.now key (seen c.args.disk.now) (seen c.create.new.disk) signer made.2 before after made.1
+    (c.in-Ok.ensures.size refl) in
     let end = end-is c.args.levels.now key (seen c.args.disk.now) (seen c.create.new.disk) signer made.2 c.end.result c.end.ensures in
     let public = public-is c.args.levels.now key (seen c.args.disk.now) (seen c.create.new.disk) signer made.2 c.public.result c.public.ensures in
     record {
@@ -35,7 +36,8 @@ returns g c =
     let made = c.in-Ok.ensures.created refl in
     let before : EntropySeen = record { faults = g.E.Entropy.faults c.args.entropy.now; bytes = g.E.Entropy.bytes c.args.entropy.now } in
     let after : EntropySeen = record { faults = g.E.Entropy.faults c.create.new.entropy; bytes = g.E.Entropy.bytes c.create.new.entropy } in
-    let standing = is-standing c.args.levels.now made.0 (seen c.args.disk.now) (seen c.create.new.disk) c.in-Ok.signer made.2 before after made.1 (c.in-Ok.ensures.size refl) in
+    let standing = is-standing c.args.levels.now made.0 (seen c.args.disk.now) (seen c.create.new.disk) c.in-Ok.signer made.2 before after made.1
+    (c.in-Ok.ensures.size refl) in
     record {
       may = inr ((made.0, standing), c.in-Err-OutOfMemory.ensures.refused);
       disk = c.in-Ok.ensures.cause;

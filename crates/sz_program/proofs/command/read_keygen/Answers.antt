@@ -15,7 +15,8 @@ returns-in-Some-2 c =
     let form_is : app_of c.in_ok-form.form ≡ keygen_form = search rules in
     let is = c.in_ok-matches.ensures ∙ ap₂ taken form_is words_are in
     subst (λ (read : Option Command). IfOk c.keygen_matched.result (λ found. option_map command_of found ≡ read))
-    (read_rows keygen_form keygen_matched c.args.words.now (Some (rows_of (found_of c.in-Some-2.matches))) texts.1 (rw c.in-Some-2.is at is)) c.keygen_matched.ensures
+    (read_rows keygen_form keygen_matched c.args.words.now (Some (rows_of (found_of c.in-Some-2.matches))) texts.1
+    (rw c.in-Some-2.is at is)) c.keygen_matched.ensures
 
 pub returns : goal.returns
 returns c =

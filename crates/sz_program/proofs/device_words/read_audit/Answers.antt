@@ -15,7 +15,8 @@ returns-in-Some-2 c =
     let form_is : app_of c.in_ok-form.form ≡ audit_form = search rules in
     let is = c.in_ok-matches.ensures ∙ ap₂ taken form_is words_are in
     subst (λ (read : Option Command). IfOk c.audit_matched.result (λ found. option_map command_of found ≡ read))
-    (read_rows audit_form audit_matched c.args.words.now (Some (rows_of (found_of c.in-Some-2.matches))) texts.1 (rw c.in-Some-2.is at is)) c.audit_matched.ensures
+    (read_rows audit_form audit_matched c.args.words.now (Some (rows_of (found_of c.in-Some-2.matches))) texts.1
+    (rw c.in-Some-2.is at is)) c.audit_matched.ensures
 
 pub returns : goal.returns
 returns c =

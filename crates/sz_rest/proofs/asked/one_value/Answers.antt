@@ -1,5 +1,5 @@
 use Rattle.std.proofs.Common.{arith, option_copied}
-use Rattle.sz_head.specs.Parts.{fields_of}
+use Rattle.sz_http.specs.Parts.{fields_of}
 use Rattle.sz_rest.proofs.Values.{none_found, one_found, one_more, two_values}
 use Rattle.sz_rest.proofs.asked.one_value.Goals as goal
 

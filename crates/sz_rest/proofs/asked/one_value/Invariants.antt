@@ -1,6 +1,6 @@
 use Rattle.std.proofs.Common.{◌≡◌, take, option_copied, option_to_list}
-use Rattle.sz_head.specs.Parts.{fields_of}
-use Rattle.sz_body.specs.Framing.{values}
+use Rattle.sz_http.specs.Parts.{fields_of}
+use Rattle.sz_http.specs.Framing.{values}
 use Rattle.sz_rest.proofs.asked.one_value.Given as goal
 
 -- the fields so far have the value that was found, and no other

@@ -1,4 +1,4 @@
-use Rattle.sz_head.specs.Parts.{parts_of}
+use Rattle.sz_http.specs.Parts.{parts_of}
 use Rattle.sz_rest.proofs.Rules.{body_refused}
 use Rattle.sz_rest.proofs.asked.posted.Goals as goal
 

@@ -1,9 +1,9 @@
 use Rattle.std.proofs.Common.{ℕ, List, [], ap, sym, ◌∙◌, arith}
 use Rattle.std.proofs.lemmas.Bool.{iff_false}
 use Rattle.std.proofs.lemmas.Option.{get_or_from_slice_get}
-use Rattle.sz_head.specs.Parts.{fields_of}
-use Rattle.sz_body.specs.Framing.{value_if}
-use Rattle.sz_body.proofs.Values.{value_named, value_unnamed}
+use Rattle.sz_http.specs.Parts.{fields_of}
+use Rattle.sz_http.specs.Framing.{value_if}
+use Rattle.sz_http.proofs.Values.{value_named, value_unnamed}
 use Rattle.sz_rest.proofs.asked.value_at.Goals as goal
 use Rattle.sz_rest.proofs.asked.value_at.Goals.{in_default-via-in-Some+else-eq_ignore_ascii_case, in_default-via-in_default}
 

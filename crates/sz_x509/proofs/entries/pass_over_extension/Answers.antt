@@ -1,7 +1,7 @@
 use Rattle.std.proofs.Common.{◌≡◌, true, false, None, Some, refl, sym, ap, ◌∙◌}
 use Rattle.std.proofs.lemmas.Result.{MatchResult-weaker}
 use Rattle.sz_der.specs.Spots.{spot_of}
-use Rattle.sz_der.specs.declared.tag.TheConstants.{SEQUENCE}
+use Rattle.sz_der.specs.Tags.{sequence_tag}
 use Rattle.sz_der.proofs.Steps.{exit}
 use Rattle.sz_x509.specs.CertFault.{end, Fault, flag_at, flag_spot, value_spot}
 use Rattle.sz_x509.specs.CrlFault.{passed_over_fault}
@@ -100,5 +100,5 @@ returns-clause-fault c =
 
 pub returns-clause-shorter : goal.returns-clause-shorter
 returns-clause-shorter c =
-    let less = shorter_after kinds.Der SEQUENCE c.args.reader.now c.take_part.new.reader c.in_ok-extension.ensures.ok c.in_ok-extension.ensures.next in
+    let less = shorter_after kinds.Der sequence_tag c.args.reader.now c.take_part.new.reader c.in_ok-extension.ensures.ok c.in_ok-extension.ensures.next in
     MatchResult-weaker c.expect_end.result c.expect_end.ensures.ok (λ x h. less) (λ x h. h)

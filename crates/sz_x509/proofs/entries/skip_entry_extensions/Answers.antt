@@ -1,7 +1,7 @@
 use Rattle.std.proofs.Common.{◌≡◌, None, refl, sym, ◌∙◌}
 use Rattle.std.proofs.lemmas.Result.{MatchResult-weaker}
 use Rattle.sz_der.specs.Spots.{each, spot_of, spots_from}
-use Rattle.sz_der.specs.declared.tag.TheConstants.{SEQUENCE}
+use Rattle.sz_der.specs.Tags.{sequence_tag}
 use Rattle.sz_der.proofs.Optional.{after_next, after_other}
 use Rattle.sz_der.proofs.Steps.{exit}
 use Rattle.sz_x509.specs.CrlFault.{entry_extensions_fault, passed_over_fault}
@@ -14,7 +14,7 @@ returns-then-not-is_next-clause-ok c =
 
 pub returns-then-not-is_next-clause-next : goal.returns-then-not-is_next-clause-next
 returns-then-not-is_next-clause-next c =
-    sym (after_other SEQUENCE (spot_of c.args.reader.now) (sym c.is_next.ensures ∙ c.if-not-is_next.true))
+    sym (after_other sequence_tag (spot_of c.args.reader.now) (sym c.is_next.ensures ∙ c.if-not-is_next.true))
 
 pub returns-in_err-item-clause-fault : goal.returns-in_err-item-clause-fault
 unfolding entry_extensions_fault
@@ -35,7 +35,7 @@ returns-clause-ok c =
 
 pub returns-clause-next : goal.returns-clause-next
 returns-clause-next c =
-    let next = c.in_ok-item.ensures.next ∙ sym (after_next SEQUENCE (spot_of c.args.reader.now) (sym c.is_next.ensures ∙ c.if-not-is_next.false)) in
+    let next = c.in_ok-item.ensures.next ∙ sym (after_next sequence_tag (spot_of c.args.reader.now) (sym c.is_next.ensures ∙ c.if-not-is_next.false)) in
     MatchResult-weaker c.pass_over_extensions.result c.pass_over_extensions.ensures.ok (λ x h. next) (λ x h. h)
 
 pub returns-clause-fault : goal.returns-clause-fault

@@ -1,6 +1,6 @@
 use Rattle.std.proofs.Common.{refl, sym, ◌∙◌}
 use Rattle.sz_der.specs.Spots.{spot_of}
-use Rattle.sz_der.specs.declared.tag.TheConstants.{SEQUENCE}
+use Rattle.sz_der.specs.Tags.{sequence_tag}
 use Rattle.sz_der.proofs.Optional.{after_next, after_other}
 use Rattle.sz_der.proofs.Steps.{exit}
 use Rattle.sz_x509.specs.CrlFault.{revoked_fault}
@@ -18,7 +18,7 @@ returns-then-not-is_next-clause-entries c =
 
 pub returns-then-not-is_next-clause-next : goal.returns-then-not-is_next-clause-next
 returns-then-not-is_next-clause-next c =
-    sym (after_other SEQUENCE (spot_of c.args.reader.now) (sym c.is_next.ensures ∙ c.if-not-is_next.true))
+    sym (after_other sequence_tag (spot_of c.args.reader.now) (sym c.is_next.ensures ∙ c.if-not-is_next.true))
 
 pub returns-in_err-item-clause-fault : goal.returns-in_err-item-clause-fault
 unfolding revoked_fault
@@ -48,4 +48,4 @@ returns-clause-entries c =
 
 pub returns-clause-next : goal.returns-clause-next
 returns-clause-next c =
-    c.in_ok-item.ensures.next ∙ sym (after_next SEQUENCE (spot_of c.args.reader.now) (sym c.is_next.ensures ∙ c.if-not-is_next.false))
+    c.in_ok-item.ensures.next ∙ sym (after_next sequence_tag (spot_of c.args.reader.now) (sym c.is_next.ensures ∙ c.if-not-is_next.false))

@@ -1,7 +1,7 @@
 use Rattle.std.proofs.Common.{◌≡◌, None, refl}
 use Rattle.std.proofs.lemmas.Result.{MatchResult-weaker}
 use Rattle.sz_der.specs.Spots.{spot_of}
-use Rattle.sz_der.specs.declared.tag.TheConstants.{SEQUENCE}
+use Rattle.sz_der.specs.Tags.{sequence_tag}
 use Rattle.sz_der.proofs.Steps.{exit}
 use Rattle.sz_x509.specs.CertFault.{end}
 use Rattle.sz_x509.specs.CrlFault.{entry_fault}
@@ -81,5 +81,5 @@ returns-clause-fault c =
 
 pub returns-clause-shorter : goal.returns-clause-shorter
 returns-clause-shorter c =
-    let less = shorter_after kinds.Der SEQUENCE c.args.reader.now c.open_part.new.reader c.in_ok-parts.ensures.ok c.in_ok-parts.ensures.next in
+    let less = shorter_after kinds.Der sequence_tag c.args.reader.now c.open_part.new.reader c.in_ok-parts.ensures.ok c.in_ok-parts.ensures.next in
     MatchResult-weaker c.expect_end.result c.expect_end.ensures.ok (λ x h. less) (λ x h. h)

@@ -1,6 +1,6 @@
 use Rattle.std.proofs.Common.{Some, refl, sym, ap}
 use Rattle.sz_der.specs.Spots.{spot_of}
-use Rattle.sz_der.specs.declared.tag.TheConstants.{BIT_STRING}
+use Rattle.sz_der.specs.Tags.{bit_string_tag}
 use Rattle.sz_der.proofs.Steps.{exit, fails, part_tag, passes}
 use Rattle.sz_x509.specs.CertFault.{Fault, key_usage_fault}
 use Rattle.sz_x509.specs.Contents.{is_bits}
@@ -19,7 +19,7 @@ returns-in_default-clause-fault c =
     let spot = spot_of c.args.value.now in
     let item = c.in_ok-item.item in
     let is = c.in_ok-item.ensures.item in
-    let tag = part_tag _ _ BIT_STRING spot item c.in_ok-item.ensures.ok is in
+    let tag = part_tag _ _ bit_string_tag spot item c.in_ok-item.ensures.ok is in
     let test = fails is_bits spot item is (λ e.
     let bits = bits_of item.content.now e in
     absurd (cc (c.in_default.ensures.only bits.0 bits.1 tag bits.2 bits.3))) in

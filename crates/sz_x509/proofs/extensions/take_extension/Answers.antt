@@ -2,7 +2,7 @@ use Rattle.std.proofs.Common.{◌≡◌, true, false, not, ◌||◌, Some, None,
 use Rattle.std.proofs.lemmas.Bool.{not_from_false, or_left, or_right}
 use Rattle.std.proofs.lemmas.Result.{MatchResult-weaker}
 use Rattle.sz_der.specs.Spots.{content_at, spot_of}
-use Rattle.sz_der.specs.declared.tag.TheConstants.{SEQUENCE}
+use Rattle.sz_der.specs.Tags.{sequence_tag}
 use Rattle.sz_der.proofs.Steps.{exit}
 use Rattle.sz_x509.specs.CertFault.{extension_fault, Fault, flag_at, flag_spot, identifier_at, stands_among, value_fault, value_spot}
 use Rattle.sz_x509.specs.Extensions.{is_known}
@@ -228,7 +228,7 @@ returns-clause-adds c =
 
 pub returns-clause-shorter : goal.returns-clause-shorter
 returns-clause-shorter c =
-    let less = shorter_after kinds.Der SEQUENCE c.args.reader.now c.take_part.new.reader c.in_ok-extension.ensures.ok c.in_ok-extension.ensures.next in
+    let less = shorter_after kinds.Der sequence_tag c.args.reader.now c.take_part.new.reader c.in_ok-extension.ensures.ok c.in_ok-extension.ensures.next in
     MatchResult-weaker c.read_value.result c.read_value.ensures.ok (λ x h. less) (λ x h. h)
 
 pub returns-clause-few : goal.returns-clause-few

@@ -3,7 +3,7 @@ use Rattle.sz_der.specs.Spots.{spot_of}
 use Rattle.sz_der.proofs.Optional.{after_next, after_other}
 use Rattle.sz_der.proofs.Steps.{exit}
 use Rattle.sz_x509.specs.CertFault.{extensions_fault}
-use Rattle.sz_x509.specs.declared.tag.TheConstants.{EXTENSIONS}
+use Rattle.sz_x509.specs.Tags.{extensions_tag}
 use Rattle.sz_x509.proofs.Adding.{restricted_by_none}
 use Rattle.sz_x509.proofs.Whole.{spots_next, spots_other}
 use Rattle.sz_x509.proofs.extensions.take_extensions.Goals as goal
@@ -19,7 +19,7 @@ returns-then-not-is_next-clause-restricted c =
 
 pub returns-then-not-is_next-clause-next : goal.returns-then-not-is_next-clause-next
 returns-then-not-is_next-clause-next c =
-    sym (after_other EXTENSIONS (spot_of c.args.reader.now) (sym c.is_next.ensures ∙ c.if-not-is_next.true))
+    sym (after_other extensions_tag (spot_of c.args.reader.now) (sym c.is_next.ensures ∙ c.if-not-is_next.true))
 
 pub returns-in_err-item-clause-fault : goal.returns-in_err-item-clause-fault
 unfolding extensions_fault
@@ -88,4 +88,4 @@ returns-clause-restricted c =
 
 pub returns-clause-next : goal.returns-clause-next
 returns-clause-next c =
-    c.in_ok-item.ensures.next ∙ sym (after_next EXTENSIONS (spot_of c.args.reader.now) (sym c.is_next.ensures ∙ c.if-not-is_next.false))
+    c.in_ok-item.ensures.next ∙ sym (after_next extensions_tag (spot_of c.args.reader.now) (sym c.is_next.ensures ∙ c.if-not-is_next.false))

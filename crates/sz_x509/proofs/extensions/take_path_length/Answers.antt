@@ -3,7 +3,7 @@ use Rattle.std.proofs.lemmas.Bool.{false≢true}
 use Rattle.sz_der.specs.Der.{number_of}
 use Rattle.sz_der.specs.Integer.{is_integer, IsIntegerOf}
 use Rattle.sz_der.specs.Spots.{is_next, spot_of}
-use Rattle.sz_der.specs.declared.tag.TheConstants.{INTEGER}
+use Rattle.sz_der.specs.Tags.{integer_tag}
 use Rattle.sz_der.proofs.Optional.{after_next, after_other, next_tag}
 use Rattle.sz_der.proofs.Steps.{exit, fails, passes}
 use Rattle.sz_der.proofs.IntegerTest.{integer_test, IsInteger_from_test}
@@ -22,7 +22,7 @@ returns-then-not-is_next-clause-path_len c =
     sym (path_length-other (spot_of c.args.reader.now) (sym c.is_next.ensures ∙ c.if-not-is_next.true))
 
 pub returns-then-not-is_next-clause-next : goal.returns-then-not-is_next-clause-next
-returns-then-not-is_next-clause-next c = sym (after_other INTEGER (spot_of c.args.reader.now) (sym c.is_next.ensures ∙ c.if-not-is_next.true))
+returns-then-not-is_next-clause-next c = sym (after_other integer_tag (spot_of c.args.reader.now) (sym c.is_next.ensures ∙ c.if-not-is_next.true))
 
 pub returns-in_err-item-clause-fault : goal.returns-in_err-item-clause-fault
 unfolding path_length_fault
@@ -56,7 +56,7 @@ returns-in-Ok-Some-clause-path_len c =
 
 pub returns-in-Ok-Some-clause-next : goal.returns-in-Ok-Some-clause-next
 returns-in-Ok-Some-clause-next c =
-    c.in_ok-item.ensures.next ∙ sym (after_next INTEGER (spot_of c.args.reader.now) (sym c.is_next.ensures ∙ c.if-not-is_next.false))
+    c.in_ok-item.ensures.next ∙ sym (after_next integer_tag (spot_of c.args.reader.now) (sym c.is_next.ensures ∙ c.if-not-is_next.false))
 
 pub returns-in-Ok-None-clause-fault : goal.returns-in-Ok-None-clause-fault
 unfolding path_length_fault
@@ -79,8 +79,8 @@ returns-in-Err-clause-fault c =
     let spot = spot_of c.args.reader.now in
     let item = c.in_ok-item.item in
     let is = c.in_ok-item.ensures.item in
-    let next : is_next INTEGER spot ≡ true = sym c.is_next.ensures ∙ c.if-not-is_next.false in
-    let tag : item.tag ≡ INTEGER = is.tag ∙ next_tag INTEGER spot next in
+    let next : is_next integer_tag spot ≡ true = sym c.is_next.ensures ∙ c.if-not-is_next.false in
+    let tag : item.tag ≡ integer_tag = is.tag ∙ next_tag integer_tag spot next in
     let test = fails is_integer spot item is
     (λ e. false≢true (c.in-Err.ensures.exact.1 (tag, IsInteger_from_test item.content.now e))) in
     rw (next, c.in_ok-item.ensures.ok, test) (ap (λ (x : Fault). Some x) (sym (c.part_fault-in-Err.ensures spot is)))

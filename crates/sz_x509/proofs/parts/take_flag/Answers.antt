@@ -1,6 +1,6 @@
 use Rattle.std.proofs.Common.{◌≡◌, true, Some, refl, sym, ap, ◌∙◌}
 use Rattle.sz_der.specs.Spots.{is_next, spot_of}
-use Rattle.sz_der.specs.declared.tag.TheConstants.{BOOLEAN}
+use Rattle.sz_der.specs.Tags.{boolean_tag}
 use Rattle.sz_der.proofs.Optional.{after_next, after_other, next_tag}
 use Rattle.sz_der.proofs.Steps.{exit, fails, passes}
 use Rattle.sz_x509.specs.CertFault.{Fault, flag_fault}
@@ -17,7 +17,7 @@ pub returns-then-not-is_next-clause-flag : goal.returns-then-not-is_next-clause-
 returns-then-not-is_next-clause-flag c = sym (flag_at-other (spot_of c.args.reader.now) (sym c.is_next.ensures ∙ c.if-not-is_next.true))
 
 pub returns-then-not-is_next-clause-next : goal.returns-then-not-is_next-clause-next
-returns-then-not-is_next-clause-next c = sym (after_other BOOLEAN (spot_of c.args.reader.now) (sym c.is_next.ensures ∙ c.if-not-is_next.true))
+returns-then-not-is_next-clause-next c = sym (after_other boolean_tag (spot_of c.args.reader.now) (sym c.is_next.ensures ∙ c.if-not-is_next.true))
 
 pub returns-in_err-item-clause-fault : goal.returns-in_err-item-clause-fault
 unfolding flag_fault
@@ -42,7 +42,7 @@ returns-in-Ok-clause-flag c =
 
 pub returns-in-Ok-clause-next : goal.returns-in-Ok-clause-next
 returns-in-Ok-clause-next c =
-    c.in_ok-item.ensures.next ∙ sym (after_next BOOLEAN (spot_of c.args.reader.now) (sym c.is_next.ensures ∙ c.if-not-is_next.false))
+    c.in_ok-item.ensures.next ∙ sym (after_next boolean_tag (spot_of c.args.reader.now) (sym c.is_next.ensures ∙ c.if-not-is_next.false))
 
 pub returns-in-Err-clause-fault : goal.returns-in-Err-clause-fault
 unfolding flag_fault
@@ -50,8 +50,8 @@ returns-in-Err-clause-fault c =
     let spot = spot_of c.args.reader.now in
     let item = c.in_ok-item.item in
     let is = c.in_ok-item.ensures.item in
-    let next : is_next BOOLEAN spot ≡ true = sym c.is_next.ensures ∙ c.if-not-is_next.false in
-    let tag : item.tag ≡ BOOLEAN = is.tag ∙ next_tag BOOLEAN spot next in
+    let next : is_next boolean_tag spot ≡ true = sym c.is_next.ensures ∙ c.if-not-is_next.false in
+    let tag : item.tag ≡ boolean_tag = is.tag ∙ next_tag boolean_tag spot next in
     let test = fails is_boolean spot item is
     (λ e. absurd (cc (c.in-Err.ensures.only (is_true_content item.content.now) tag (IsBoolean_from_test item.content.now e)))) in
     rw (next, c.in_ok-item.ensures.ok, test) (ap (λ (x : Fault). Some x) (sym (c.part_fault.ensures spot is)))

@@ -1,6 +1,6 @@
 use Rattle.std.proofs.Common.{List, ℕ, Some, drop, refl, sym, ap, ◌∙◌}
 use Rattle.sz_der.specs.Spots.{spot_of}
-use Rattle.sz_der.specs.declared.tag.TheConstants.{BIT_STRING}
+use Rattle.sz_der.specs.Tags.{bit_string_tag}
 use Rattle.sz_der.proofs.Steps.{exit, fails, part_tag, passes}
 use Rattle.sz_x509.specs.CertFault.{Fault, octets_at, octets_fault}
 use Rattle.sz_x509.specs.Contents.{is_whole_octets}
@@ -31,7 +31,7 @@ returns-in-Err-clause-fault c =
     let spot = spot_of c.args.reader.now in
     let item = c.in_ok-item.item in
     let is = c.in_ok-item.ensures.item in
-    let tag = part_tag _ _ BIT_STRING spot item c.in_ok-item.ensures.ok is in
+    let tag = part_tag _ _ bit_string_tag spot item c.in_ok-item.ensures.ok is in
     let test = fails is_whole_octets spot item is
     (λ e. absurd (c.in-Err.ensures.only (drop 1 item.content.now) tag (whole_octets_from_test item.content.now e))) in
     rw (c.in_ok-item.ensures.ok, test) (ap (λ (x : Fault). Some x) (sym (c.part_fault.ensures spot is)))

@@ -4,7 +4,7 @@ use Rattle.sz_der.proofs.Steps.{exit}
 use Rattle.sz_x509.specs.CertFault.{tbs_parts_fault}
 use Rattle.sz_x509.specs.CertPlaces.{extension_spots, key_at, RestrictedAt, seconds_at}
 use Rattle.sz_x509.specs.View.{extensions_of, fields_of}
-use Rattle.sz_x509.specs.declared.tag.TheConstants.{ISSUER_UNIQUE_ID, SUBJECT_UNIQUE_ID}
+use Rattle.sz_x509.specs.Tags.{issuer_unique_id_tag, subject_unique_id_tag}
 use Rattle.sz_x509.proofs.tbs.read_tbs.Goals as goal
 
 pub returns-in_err-take_version-clause-fault : goal.returns-in_err-take_version-clause-fault
@@ -240,8 +240,8 @@ returns-clause-fields c =
     let subject = c.in_ok-not_before.ensures.next ∙ ap after validity in
     let key = c.in_ok-subject.ensures.next ∙ ap after subject in
     let issuer_id = c.in_ok-key.ensures.next ∙ ap after key in
-    let subject_id = c.in_ok-skip_unique_id.ensures.next ∙ ap (λ (s : Spot). after_optional ISSUER_UNIQUE_ID s) issuer_id in
-    let extensions = c.in_ok-skip_unique_id-2.ensures.next ∙ ap (λ (s : Spot). after_optional SUBJECT_UNIQUE_ID s) subject_id in
+    let subject_id = c.in_ok-skip_unique_id.ensures.next ∙ ap (λ (s : Spot). after_optional issuer_unique_id_tag s) issuer_id in
+    let extensions = c.in_ok-skip_unique_id-2.ensures.next ∙ ap (λ (s : Spot). after_optional subject_unique_id_tag s) subject_id in
     record {
       serial = c.in_ok-serial.ensures.octets ∙ ap content_at serial;
       issuer = c.in_ok-issuer.ensures.item.whole ∙ ap whole_at issuer;

@@ -4,7 +4,7 @@ use Rattle.std.proofs.lemmas.Bool.{false≢true, not-false, not-true}
 use Rattle.std.proofs.lemmas.Result.{MatchResult-weaker}
 use Rattle.sz_der.specs.Integer.{is_integer}
 use Rattle.sz_der.specs.Spots.{content_at, spot_of}
-use Rattle.sz_der.specs.declared.tag.TheConstants.{INTEGER}
+use Rattle.sz_der.specs.Tags.{integer_tag}
 use Rattle.sz_der.proofs.Steps.{exit, fails, part_tag, passes}
 use Rattle.sz_der.proofs.IntegerTest.{integer_test, IsInteger_from_test}
 use Rattle.sz_x509.specs.CertFault.{end, Fault, version_fault}
@@ -30,7 +30,7 @@ pub returns-in_default-clause-fault : goal.returns-in_default-clause-fault
 unfolding version_fault
 returns-in_default-clause-fault c =
     let version = c.in_ok-version.version in
-    let tag = part_tag _ _ INTEGER (spot_of c.in_ok-parts.parts) version c.in_ok-version.ensures.ok c.in_ok-version.ensures.item in
+    let tag = part_tag _ _ integer_tag (spot_of c.in_ok-parts.parts) version c.in_ok-version.ensures.ok c.in_ok-version.ensures.item in
     let test = fails is_integer (spot_of c.in_ok-parts.parts) version c.in_ok-version.ensures.item
     (λ e. false≢true (c.in_default.ensures.exact.1 (tag, IsInteger_from_test version.content.now e))) in
     rw (c.in_ok-parts.ensures.ok, ← c.in_ok-parts.ensures.inside, c.in_ok-version.ensures.ok, test)

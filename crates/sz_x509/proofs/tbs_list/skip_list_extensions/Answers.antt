@@ -1,7 +1,7 @@
 use Rattle.std.proofs.Common.{◌≡◌, None, refl, sym, ◌∙◌}
 use Rattle.std.proofs.lemmas.Result.{MatchResult-weaker}
 use Rattle.sz_der.specs.Spots.{spot_of}
-use Rattle.sz_der.specs.declared.tag.TheConstants.{CONTEXT_CONSTRUCTED}
+use Rattle.sz_der.specs.Tags.{context_constructed}
 use Rattle.sz_der.proofs.Optional.{after_next, after_other}
 use Rattle.sz_der.proofs.Steps.{exit}
 use Rattle.sz_x509.specs.CertFault.{end}
@@ -16,7 +16,7 @@ returns-then-not-is_next-clause-ok c =
 
 pub returns-then-not-is_next-clause-next : goal.returns-then-not-is_next-clause-next
 returns-then-not-is_next-clause-next c =
-    sym (after_other CONTEXT_CONSTRUCTED (spot_of c.args.reader.now) (sym c.is_next.ensures ∙ c.if-not-is_next.true))
+    sym (after_other context_constructed (spot_of c.args.reader.now) (sym c.is_next.ensures ∙ c.if-not-is_next.true))
 
 pub returns-in_err-item-clause-fault : goal.returns-in_err-item-clause-fault
 unfolding list_extensions_fault
@@ -65,7 +65,7 @@ returns-clause-ok c =
 
 pub returns-clause-next : goal.returns-clause-next
 returns-clause-next c =
-    let next = c.in_ok-item.ensures.next ∙ sym (after_next CONTEXT_CONSTRUCTED (spot_of c.args.reader.now) (sym c.is_next.ensures ∙ c.if-not-is_next.false)) in
+    let next = c.in_ok-item.ensures.next ∙ sym (after_next context_constructed (spot_of c.args.reader.now) (sym c.is_next.ensures ∙ c.if-not-is_next.false)) in
     MatchResult-weaker c.expect_end.result c.expect_end.ensures.ok (λ x h. next) (λ x h. h)
 
 pub returns-clause-fault : goal.returns-clause-fault

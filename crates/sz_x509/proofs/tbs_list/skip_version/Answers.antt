@@ -3,7 +3,7 @@ use Rattle.std.proofs.Common.{◌≡◌, ℕ, true, false, List, [], ◌∷◌, 
 use Rattle.std.proofs.lemmas.Bool.{false≢true, not-false, not-true}
 use Rattle.sz_der.specs.Integer.{is_integer}
 use Rattle.sz_der.specs.Spots.{content_at, is_next, spot_of}
-use Rattle.sz_der.specs.declared.tag.TheConstants.{INTEGER}
+use Rattle.sz_der.specs.Tags.{integer_tag}
 use Rattle.sz_der.proofs.Optional.{after_next, after_other, next_tag}
 use Rattle.sz_der.proofs.Steps.{exit, fails, passes}
 use Rattle.sz_der.proofs.IntegerTest.{integer_test, IsInteger_from_test}
@@ -20,7 +20,7 @@ returns-then-not-is_next-clause-ok c =
 pub returns-then-not-is_next-clause-next : goal.returns-then-not-is_next-clause-next
 unfolding list_algorithm_spot
 returns-then-not-is_next-clause-next c =
-    sym (after_other INTEGER (spot_of c.args.reader.now) (sym c.is_next.ensures ∙ c.if-not-is_next.true))
+    sym (after_other integer_tag (spot_of c.args.reader.now) (sym c.is_next.ensures ∙ c.if-not-is_next.true))
 
 pub returns-in_err-version-clause-fault : goal.returns-in_err-version-clause-fault
 unfolding list_version_fault
@@ -31,8 +31,8 @@ pub returns-in_default-clause-fault : goal.returns-in_default-clause-fault
 unfolding list_version_fault
 returns-in_default-clause-fault c =
     let version = c.in_ok-version.version in
-    let next : is_next INTEGER (spot_of c.args.reader.now) ≡ true = sym c.is_next.ensures ∙ c.if-not-is_next.false in
-    let tag = c.in_ok-version.ensures.item.tag ∙ next_tag INTEGER (spot_of c.args.reader.now) next in
+    let next : is_next integer_tag (spot_of c.args.reader.now) ≡ true = sym c.is_next.ensures ∙ c.if-not-is_next.false in
+    let tag = c.in_ok-version.ensures.item.tag ∙ next_tag integer_tag (spot_of c.args.reader.now) next in
     let test = fails is_integer (spot_of c.args.reader.now) version c.in_ok-version.ensures.item
     (λ e. false≢true (c.in_default.ensures.exact.1 (tag, IsInteger_from_test version.content.now e))) in
     rw (sym c.is_next.ensures ∙ c.if-not-is_next.false, c.in_ok-version.ensures.ok, test)
@@ -62,4 +62,4 @@ returns-clause-ok c =
 pub returns-clause-next : goal.returns-clause-next
 unfolding list_algorithm_spot
 returns-clause-next c =
-    c.in_ok-version.ensures.next ∙ sym (after_next INTEGER (spot_of c.args.reader.now) (sym c.is_next.ensures ∙ c.if-not-is_next.false))
+    c.in_ok-version.ensures.next ∙ sym (after_next integer_tag (spot_of c.args.reader.now) (sym c.is_next.ensures ∙ c.if-not-is_next.false))

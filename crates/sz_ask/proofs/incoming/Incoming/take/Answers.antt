@@ -4,7 +4,7 @@ use Rattle.std.proofs.lemmas.List.{take-append-drop, take_rest}
 use Rattle.std.proofs.lemmas.Result.{err_from_is_err_and}
 use Rattle.sz_http.specs.declared.side.Side.TheVariants as side
 use Rattle.sz_ask.specs.Coming.{HasCome, IsComing}
-use Rattle.sz_ask.specs.declared.asking.TheConstants.{MOST_REPLY_BYTES}
+use Rattle.sz_ask.specs.Limits.{most_reply_bytes}
 use Rattle.sz_ask.specs.declared.incoming.Incoming.{Incoming}
 use Rattle.sz_ask.proofs.Comings.{came_whole, moved, tells_http}
 use Rattle.sz_ask.proofs.incoming.Incoming.take.Goals as goal
@@ -14,7 +14,7 @@ returns-in_err-fed-clause-refused c = λ bytes given.
     let at = c.loop-at.at in
     let piece = c.args.piece.now in
     let rest = take (length piece - at) (drop at piece) in
-    let refuses = c.in_err-fed.ensures.answers side.Reply MOST_REPLY_BYTES (bytes ++ take at piece) c.loop-at.self.body
+    let refuses = c.in_err-fed.ensures.answers side.Reply most_reply_bytes (bytes ++ take at piece) c.loop-at.self.body
     (c.loop-at.invariant.coming bytes given) in
     let whole : (bytes ++ take at piece) ++ rest ≡ bytes ++ piece =
     append_assoc bytes (take at piece) rest
@@ -31,7 +31,7 @@ returns-then-fed-clause-ok c = λ bytes given.
     let rest = take (length piece - at) (drop at piece) in
     let fed = c.in_ok-fed.fed in
     let new : Incoming = record { reading = c.feed.new.self; body = c.append.new.self } in
-    let took = c.in_ok-fed.ensures.answers side.Reply MOST_REPLY_BYTES front c.loop-at.self.body
+    let took = c.in_ok-fed.ensures.answers side.Reply most_reply_bytes front c.loop-at.self.body
     (c.loop-at.invariant.coming bytes given) in
     let whole : (front ++ take fed.used rest) ++ drop fed.used rest ≡ bytes ++ piece =
     append_assoc front (take fed.used rest) (drop fed.used rest)
@@ -47,7 +47,7 @@ overflow_add-at c =
     let piece = c.args.piece.now in
     let rest = take (length piece - at) (drop at piece) in
     let cut : length rest ≡ length (drop at piece) = ap length (take_rest piece at) in
-    let took = c.in_ok-fed.ensures.answers side.Reply MOST_REPLY_BYTES (c.requires.0 ++ take at piece) c.loop-at.self.body
+    let took = c.in_ok-fed.ensures.answers side.Reply most_reply_bytes (c.requires.0 ++ take at piece) c.loop-at.self.body
     (c.loop-at.invariant.coming c.requires.0 c.requires.1) in
     omega (arith, took.within, length-drop at piece)
 
@@ -57,7 +57,7 @@ loop-at-smaller c =
     let piece = c.args.piece.now in
     let rest = take (length piece - at) (drop at piece) in
     let cut : length rest ≡ length (drop at piece) = ap length (take_rest piece at) in
-    let took = c.in_ok-fed.ensures.answers side.Reply MOST_REPLY_BYTES (c.requires.0 ++ take at piece) c.loop-at.self.body
+    let took = c.in_ok-fed.ensures.answers side.Reply most_reply_bytes (c.requires.0 ++ take at piece) c.loop-at.self.body
     (c.loop-at.invariant.coming c.requires.0 c.requires.1) in
     let some : 0 < length rest = omega (arith, length-drop at piece) in
     let on = moved c.in_ok-fed.fed.used (length rest) c.in_ok-fed.fed.done took.moves some c.if-fed.false in
@@ -72,7 +72,7 @@ loop-at-preserved c =
     let cut : length rest ≡ length (drop at piece) = ap length is in
     let fed = c.in_ok-fed.fed in
     let took = λ (bytes : List ℕ) (given : IsComing c.args.self.now bytes).
-    c.in_ok-fed.ensures.answers side.Reply MOST_REPLY_BYTES (bytes ++ take at piece) c.loop-at.self.body
+    c.in_ok-fed.ensures.answers side.Reply most_reply_bytes (bytes ++ take at piece) c.loop-at.self.body
     (c.loop-at.invariant.coming bytes given) in
     record {
       within = omega (arith, (took c.requires.0 c.requires.1).within, length-drop at piece);

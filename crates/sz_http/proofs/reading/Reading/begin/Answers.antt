@@ -1,6 +1,6 @@
 use Rattle.std.proofs.Common.{[], refl, subst}
-use Rattle.sz_head.specs.declared.kind.Kind.{Kind}
-use Rattle.sz_head.specs.Reading.{Takes as TakesHead}
+use Rattle.sz_http.specs.declared.kind.Kind.{Kind}
+use Rattle.sz_http.specs.HeadReading.{Takes as TakesHead}
 use Rattle.sz_http.proofs.Taken.{takes_first}
 use Rattle.sz_http.proofs.reading.Reading.begin.Goals as goal
 

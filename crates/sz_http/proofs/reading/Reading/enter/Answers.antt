@@ -1,6 +1,6 @@
 use Rattle.std.proofs.Common.{[], false, refl, subst, arith, Ok}
-use Rattle.sz_body.specs.declared.framing.Framing.{Framing}
-use Rattle.sz_chunked.proofs.Parts.{nothing_part}
+use Rattle.sz_http.specs.declared.framing.Framing.{Framing}
+use Rattle.sz_http.proofs.ChunkParts.{nothing_part}
 use Rattle.sz_http.specs.declared.reading.Reading.{Reading}
 use Rattle.sz_http.specs.declared.reading.Stage.TheVariants.{Chunked}
 use Rattle.sz_http.specs.Message.{IsFramed}

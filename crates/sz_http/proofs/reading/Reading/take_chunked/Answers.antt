@@ -1,6 +1,6 @@
 use Rattle.std.proofs.Common.{◌++◌, false, refl, sym, ap, ◌∙◌, subst, take, Ok}
 use Rattle.std.proofs.lemmas.Bool.{cases_Bool}
-use Rattle.sz_body.specs.declared.framing.Framing.TheVariants.{Chunks}
+use Rattle.sz_http.specs.declared.framing.Framing.TheVariants.{Chunks}
 use Rattle.sz_http.specs.declared.fault.HttpFault.{HttpFault}
 use Rattle.sz_http.specs.declared.reading.Reading.{Reading}
 use Rattle.sz_http.specs.declared.reading.Stage.{Stage}

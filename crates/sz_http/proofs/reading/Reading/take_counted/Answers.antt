@@ -1,6 +1,6 @@
 use Rattle.std.proofs.Common.{◌-◌, ◌≤◌, ◌++◌, length, false, refl, sym, subst, take, arith, ◌+◌, ◌<◌, inl, Ok}
 use Rattle.std.proofs.lemmas.Bool.{eqb-false, eqb-true}
-use Rattle.sz_body.specs.declared.framing.Framing.TheVariants.{Length}
+use Rattle.sz_http.specs.declared.framing.Framing.TheVariants.{Length}
 use Rattle.sz_http.specs.declared.reading.Stage.{Stage}
 use Rattle.sz_http.specs.Reading.{Stands}
 use Rattle.sz_http.proofs.Steps.{IsGoing, counted_more, stands_counted, takes_framed}

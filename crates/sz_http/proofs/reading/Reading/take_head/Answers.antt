@@ -1,6 +1,6 @@
 use Rattle.std.proofs.Common.{◌++◌, false, refl, sym, ap, ◌∙◌, subst}
-use Rattle.sz_head.specs.declared.reading.HeadReading.{HeadReading}
-use Rattle.sz_head.specs.Reading.{Takes as TakesHead}
+use Rattle.sz_http.specs.declared.head_reading.HeadReading.{HeadReading}
+use Rattle.sz_http.specs.HeadReading.{Takes as TakesHead}
 use Rattle.sz_http.specs.declared.reading.Reading.{Reading}
 use Rattle.sz_http.specs.declared.reading.Stage.{Stage}
 use Rattle.sz_http.specs.Message.{kind_of}

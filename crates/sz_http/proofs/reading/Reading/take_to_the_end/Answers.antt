@@ -1,5 +1,5 @@
 use Rattle.std.proofs.Common.{◌++◌, false, refl, ap, subst, arith, length-append, Ok}
-use Rattle.sz_body.specs.declared.framing.Framing.TheVariants.{UntilEnd as ToTheEnd}
+use Rattle.sz_http.specs.declared.framing.Framing.TheVariants.{UntilEnd as ToTheEnd}
 use Rattle.sz_http.specs.declared.fault.HttpFault.TheVariants.{TooLarge}
 use Rattle.sz_http.specs.declared.reading.Reading.{Reading}
 use Rattle.sz_http.specs.declared.reading.Stage.{Stage}

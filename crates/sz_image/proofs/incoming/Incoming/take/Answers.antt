@@ -115,7 +115,8 @@ loop-at-preserved g c =
       within = omega (arith, (took c.requires.0 c.requires.1 c.requires.2).within, length-drop at piece);
       coming = λ first bytes given.
           subst (λ (t : List ℕ). IsComing c.put.new.self c.take_front.new.reading first (g.R.Room.held c.put.new.room) t)
-          (ap (λ (t : List ℕ). (bytes ++ take at piece) ++ take fed.used t) is ∙ append_assoc bytes (take at piece) (take fed.used (drop at piece)) ∙ ap (λ (t : List ℕ). bytes ++ t) (sym (take-add at fed.used piece)))
+          (ap (λ (t : List ℕ). (bytes ++ take at piece) ++ take fed.used t) is ∙ append_assoc bytes (take at piece) (take fed.used (drop at piece)) ∙ ap
+          (λ (t : List ℕ). bytes ++ t) (sym (take-add at fed.used piece)))
           (came_more c.loop-at.self c.take_front.new.self c.put.new.self c.loop-at.reading c.take_front.new.reading first (g.R.Room.held c.loop-at.room)
           (g.R.Room.held c.put.new.room) (bytes ++ take at piece) rest fed (c.loop-at.invariant.coming first bytes given) (took first bytes given)
           c.take_front.ensures.hasher c.put.ensures.headed c.in-Ok-put.ensures.hashed c.in-Ok-put.ensures.ok);

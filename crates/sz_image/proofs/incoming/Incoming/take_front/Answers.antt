@@ -16,7 +16,8 @@ returns-in-Err-judge-clause-refused c hash bytes body takes =
     let fed = c.in-Ok.fed in
     let took = c.in-Ok.ensures.answers Reply c.args.space bytes body takes in
     refused_cut c.args.space hash bytes c.args.piece.now fed.used c.in-Err-judge.fault
-    (c.in-Err-judge.ensures.refused c.args.space hash (bytes ++ take fed.used c.args.piece.now) (body ++ fed.body.now) (drop fed.used c.args.piece.now) false false took.taken)
+    (c.in-Err-judge.ensures.refused c.args.space hash (bytes ++ take fed.used c.args.piece.now) (body ++ fed.body.now)
+    (drop fed.used c.args.piece.now) false false took.taken)
 
 pub returns-in-Err-clause-refused : goal.returns-in-Err-clause-refused
 returns-in-Err-clause-refused c hash bytes body takes =

@@ -10,4 +10,10 @@ pub write_at-tells : goal.write_at-tells
 write_at-tells g c = record { written = OnOk-always c.result refl; wrote = WroteIn-untold _ _ _ _ _; cause = c.ensures.cause }
 
 pub sync-tells : goal.sync-tells
-sync-tells g c = record { ok = OnOk-always c.result (IsSynced-untold _ _ _); still = (IsQuiet-untold _ _ _).still; unsynced = OnErr-always c.result (λ image h. absurd h); cause = c.ensures.cause }
+sync-tells g c = record {
+  ok = OnOk-always c.result (IsSynced-untold _ _ _);
+  still = (IsQuiet-untold _ _ _).still;
+  unsynced = OnErr-always c.result
+      (λ image h. absurd h);
+  cause = c.ensures.cause;
+}

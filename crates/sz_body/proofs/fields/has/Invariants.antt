@@ -1,8 +1,0 @@
-use Rattle.std.proofs.Common.{◌≡◌, [], take}
-use Rattle.sz_head.specs.Parts.{fields_of}
-use Rattle.sz_body.specs.Framing.{values}
-use Rattle.sz_body.proofs.fields.has.Given as goal
-
--- no field so far has the name
-abbrev pub invariant-loop-index : goal.invariant-loop-index
-invariant-loop-index l = values l.name (take l.index (fields_of l.fields)) ≡ []

@@ -1,5 +1,0 @@
-use Rattle.sz_chunked.proofs.ChunkSteps.{data_end_refused_at}
-use Rattle.sz_chunked.proofs.place.after_data.Goals as goal
-
-pub returns-then-byte-ne13-clause-refuses : goal.returns-then-byte-ne13-clause-refuses
-returns-then-byte-ne13-clause-refuses c = λ tail part. data_end_refused_at c.args.byte tail part c.if-byte-ne13.true

@@ -1,5 +1,0 @@
-use Rattle.sz_walk.specs.Visits.{HasOffer}
-use Rattle.test_walk.proofs.walk.finished.Given as goal
-
-abbrev pub invariant-calls : goal.invariant-calls
-invariant-calls l = ¬ HasOffer l.walk.walked
